@@ -1,0 +1,6 @@
+pub mod Tests
+pub mod Rows
+pub mod Rules
+pub mod Exactly
+pub mod Record
+pub mod Boundaries

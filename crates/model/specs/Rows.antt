@@ -1,0 +1,41 @@
+-- The refusal table as data: a call lists rows, and the first from the top that applies is the answer.
+-- Assumes nothing.
+use mathlib.Core.List.{List, [], _∷_}
+use mathlib.Core.Bool.{Bool, true, false, _&&_}
+use Prim.Native.Nat.{ℕ}
+
+-- all of some tests, as code has it that writes them with & between: (a & b) & c
+abbrev pub allFrom : Bool → List Bool → Bool
+allFrom a [] = a
+allFrom a (b ∷ bs) = allFrom (a && b) bs
+
+abbrev pub all : List Bool → Bool
+all [] = true
+all (b ∷ bs) = allFrom b bs
+
+-- a row applies, and refuses, unless each of its tests holds
+pub record Row : Type 0 where
+  pub number : ℕ
+  pub place : ℕ
+  pub tests : List Bool
+
+abbrev pub row : ℕ → List Bool → Row
+row n bs = record { number = n; place = 0; tests = bs }
+
+-- the answer of a call: a refusal's number and place, or what was asked for
+pub data Reply (A : Type 0) : Type 0 where
+  refused : ℕ → ℕ → Reply A
+  granted : A → Reply A
+
+abbrev pub choose : {A : Type 0} → Bool → Reply A → Reply A → Reply A
+choose true a b = a
+choose false a b = b
+
+-- the first row that applies refuses; where none does, the answer is a
+unfoldable pub decide : {A : Type 0} → List Row → A → Reply A
+decide [] a = granted a
+decide (w ∷ ws) a = choose (all (w .tests)) (decide ws a) (refused (w .number) (w .place))
+
+-- the rows alone: a refusal, or a pass
+abbrev pub verdict : List Row → Reply (Unit {0})
+verdict ws = decide ws tt

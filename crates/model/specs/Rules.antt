@@ -1,0 +1,117 @@
+-- The rules of a space, a mapping and a request (document 01: Sizes, Space, Mapping, the refusal table), as tests.
+-- Sums are exact, in ℕ. Ranges are half-open.
+-- Assumes nothing.
+use mathlib.Core.List.{List, [], _∷_, _++_}
+use mathlib.Core.Bool.{Bool}
+use Prim.Native.Nat.{ℕ, zero, suc, _+_, _%_, _^_, min, max}
+use lib.Dec.{leb, ltb, eqb}
+use Rattle.model.specs.Rows.{Row, row}
+use Rattle.model.specs.declared.Space.{Space}
+use Rattle.model.specs.declared.Mapping.{Mapping}
+use Rattle.model.specs.declared.Request.{Request}
+
+-- ── sizes: a page; where a space and an offset plus size end at the latest; the last object ──
+
+abbrev pub page : ℕ
+page = 4096
+
+abbrev pub limit : ℕ
+limit = 2 ^ 48
+
+abbrev pub lastObject : ℕ
+lastObject = 4294967295
+
+-- ── words of the rules ──
+
+abbrev pub aligned : ℕ → Bool
+aligned x = eqb (x % page) 0
+
+-- [a, b) lies inside [c, d)
+abbrev pub inside : ℕ → ℕ → ℕ → ℕ → List Bool
+inside a b c d = leb c a ∷ leb b d ∷ []
+
+-- [a, b) and [c, d) share no byte
+abbrev pub apart : ℕ → ℕ → ℕ → ℕ → Bool
+apart a b c d = leb (min b d) (max a c)
+
+-- ── a space ──
+
+abbrev pub extentTests : Space → List Bool
+extentTests s =
+    aligned (s .start) ∷ aligned (s .size) ∷ aligned (s .reserved .start) ∷ aligned (s .reserved .size)
+    ∷ leb page (s .size)
+    ∷ leb (s .start + s .size) limit
+    ∷ []
+
+-- reserved size 0: no reservation, and then its start is 0; else it lies inside the space
+abbrev pub reservedTests : ℕ → Space → List Bool
+reservedTests zero s = eqb (s .reserved .start) 0 ∷ []
+reservedTests (suc n) s = inside (s .reserved .start) (s .reserved .start + s .reserved .size) (s .start) (s .start + s .size)
+
+abbrev pub spaceTests : Space → List Bool
+spaceTests s = extentTests s ++ reservedTests (s .reserved .size) s
+
+-- ── a mapping ──
+
+abbrev pub mappingTests : Space → Mapping → List Bool
+mappingTests s m =
+    aligned (m .address) ∷ aligned (m .size) ∷ aligned (m .offset)
+    ∷ leb page (m .size)
+    ∷ leb 1 (m .object) ∷ leb (m .object) lastObject
+    ∷ leb (m .offset + m .size) limit
+    ∷ leb (s .start) (m .address) ∷ leb (m .address + m .size) (s .start + s .size)
+    ∷ apart (m .address) (m .address + m .size) (s .reserved .start) (s .reserved .start + s .reserved .size)
+    ∷ []
+
+-- ── a request: op 0 maps, op 1 unmaps ──
+
+-- a map's object is from 1 on; an unmap has no object and no offset
+abbrev pub objectTests : ℕ → Request → List Bool
+objectTests zero r = leb 1 (r .object) ∷ leb (r .object) lastObject ∷ []
+objectTests (suc n) r = eqb (r .object) 0 ∷ eqb (r .offset) 0 ∷ []
+
+abbrev pub offsetTests : ℕ → Request → List Bool
+offsetTests zero r = leb (r .offset + r .size) limit ∷ []
+offsetTests (suc n) r = []
+
+-- ── the rows, each a line of document 01's table ──
+
+-- op neither 0 nor 1
+abbrev pub opRow : Request → Row
+opRow r = row 13 (leb (r .op) 1 ∷ [])
+
+-- flags or pad not 0
+abbrev pub flagsRow : Request → Row
+flagsRow r = row 14 (eqb (r .flags) 0 ∷ eqb (r .pad) 0 ∷ [])
+
+-- space breaks its rules
+abbrev pub spaceRow : Space → Row
+spaceRow s = row 1 (spaceTests s)
+
+-- address, size or offset of the request not a multiple of a page, or size 0
+abbrev pub alignmentRow : Request → Row
+alignmentRow r = row 6 (aligned (r .address) ∷ aligned (r .size) ∷ aligned (r .offset) ∷ ltb 0 (r .size) ∷ [])
+
+-- range not inside the space
+abbrev pub insideRow : Space → Request → Row
+insideRow s r = row 7 (inside (r .address) (r .address + r .size) (s .start) (s .start + s .size))
+
+-- range shares a byte with the reservation
+abbrev pub reservationRow : Space → Request → Row
+reservationRow s r = row 8 (apart (r .address) (r .address + r .size) (s .reserved .start) (s .reserved .start + s .reserved .size) ∷ [])
+
+-- map with object 0 or above the last; unmap with object or offset not 0
+abbrev pub objectRow : Request → Row
+objectRow r = row 9 (objectTests (r .op) r)
+
+-- map with offset plus size above the limit
+abbrev pub offsetRow : Request → Row
+offsetRow r = row 10 (offsetTests (r .op) r)
+
+-- ── the rows of a request, in their order: its form, which comes before everything else; what it asks of a space ──
+
+unfoldable pub formRows : Request → List Row
+formRows r = opRow r ∷ flagsRow r ∷ []
+
+unfoldable pub requestRows : Space → Request → List Row
+requestRows s r = alignmentRow r ∷ insideRow s r ∷ reservationRow s r ∷ objectRow r ∷ offsetRow r ∷ []

@@ -1,0 +1,65 @@
+// What must be believed, and nothing else: the declared types here, the definitions and the claims in specs/.
+// There is no function. Proofs of the claims are in proofs/.
+
+// A range of addresses: [start, start + size).
+pub struct Range {
+    pub start: u64,
+    pub size: u64,
+}
+
+// A GPU address space (document 01: Space). A reservation of size 0 is none.
+pub struct Space {
+    pub start: u64,
+    pub size: u64,
+    pub reserved: Range,
+}
+
+// A mapping (document 01: Mapping): [address, address + size) shows the object from the offset on.
+pub struct Mapping {
+    pub address: u64,
+    pub size: u64,
+    pub object: u64,
+    pub offset: u64,
+}
+
+// A request, with the seven fields of the record (document 01: Request record), which calls object, address, offset
+// and size handle, addr, bo_offset and range. A request by numbers has flags and pad 0.
+pub struct Request {
+    pub op: u64,
+    pub flags: u64,
+    pub object: u64,
+    pub pad: u64,
+    pub address: u64,
+    pub offset: u64,
+    pub size: u64,
+}
+
+// The refusals of document 01's table, in the order of their numbers 1 to 14. A bad mapping has its place.
+pub enum Refusal {
+    BadSpace,
+    BadTableLength,
+    ShortOperations,
+    BadCount,
+    BadMapping(usize),
+    Unaligned,
+    OutsideSpace,
+    Reserved,
+    BadObject,
+    BadOffset,
+    NoRoom,
+    BadRecordLength,
+    BadOp,
+    BadFlags,
+}
+
+// What a check of some rows of the table says.
+pub enum Verdict {
+    Pass,
+    Refuse(Refusal),
+}
+
+// What the bytes of a record say.
+pub enum Decoded {
+    Record(Request),
+    Refuse(Refusal),
+}

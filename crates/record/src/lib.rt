@@ -1,0 +1,71 @@
+// The 40-byte request record, decoded: little-endian numbers, by halves.
+use model::Decoded;
+use model::Refusal;
+use model::Request;
+use model::Verdict;
+ghost use mathlib.Core.Path.{_≡_};
+ghost use Prim.Native.Nat.{ℕ, _+_, _≤_};
+ghost use lib.ListN.{length};
+ghost use Rattle.model.specs.Record.{requestOf, decode};
+ghost use Rattle.model.specs.Answers.{decodedReply};
+ghost use Rattle.record.specs.Number.{NumberAt};
+
+const RECORD_BYTES: usize = 40;
+
+fn u8_at(bytes: &[u8], at: usize) -> u64
+    requires { ⌜ at + 1 ≤ length (now bytes) ⌝ }
+    ensures { λ x. ⌜ NumberAt (now (bytes .entry)) at 1 x ⌝ }
+{
+    bytes[at] as u64
+}
+
+fn u16_at(bytes: &[u8], at: usize) -> u64
+    requires { ⌜ at + 2 ≤ length (now bytes) ⌝ }
+    ensures { λ x. ⌜ NumberAt (now (bytes .entry)) at 2 x ⌝ }
+{
+    u8_at(bytes, at) + 0x100 * u8_at(bytes, at + 1)
+}
+
+fn u32_at(bytes: &[u8], at: usize) -> u64
+    requires { ⌜ at + 4 ≤ length (now bytes) ⌝ }
+    ensures { λ x. ⌜ NumberAt (now (bytes .entry)) at 4 x ⌝ }
+{
+    u16_at(bytes, at) + 0x1_0000 * u16_at(bytes, at + 2)
+}
+
+fn u64_at(bytes: &[u8], at: usize) -> u64
+    requires { ⌜ at + 8 ≤ length (now bytes) ⌝ }
+    ensures { λ x. ⌜ NumberAt (now (bytes .entry)) at 8 x ⌝ }
+{
+    u32_at(bytes, at) + 0x1_0000_0000 * u32_at(bytes, at + 4)
+}
+
+// The fields of a whole record.
+fn fields(bytes: &[u8]) -> Request
+    requires { ⌜ length (now bytes) ≡ 40 ⌝ }
+    ensures { λ r. ⌜ r ≡ requestOf (now (bytes .entry)) ⌝ }
+{
+    Request {
+        op: u32_at(bytes, 0),
+        flags: u32_at(bytes, 4),
+        object: u32_at(bytes, 8),
+        pad: u32_at(bytes, 12),
+        address: u64_at(bytes, 16),
+        offset: u64_at(bytes, 24),
+        size: u64_at(bytes, 32),
+    }
+}
+
+// Rows 12, 13 and 14, or the request.
+pub fn decode(bytes: &[u8]) -> Decoded
+    ensures { λ d. ⌜ decodedReply d ≡ decode (now (bytes .entry)) ⌝ }
+{
+    if bytes.len() != RECORD_BYTES {
+        return Decoded::Refuse(Refusal::BadRecordLength);
+    }
+    let r = fields(bytes);
+    match rules::form_verdict(r) {
+        Verdict::Refuse(w) => Decoded::Refuse(w),
+        Verdict::Pass => Decoded::Record(r),
+    }
+}

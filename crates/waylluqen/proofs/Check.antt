@@ -1,0 +1,32 @@
+-- The request check by what decoding answers.
+-- Assumes nothing.
+use mathlib.Core.Path.{_≡_, refl, sym, ap, _∙_}
+use mathlib.Core.List.{List, _∷_}
+use Prim.Native.Nat.{ℕ}
+use native.Mathlib.Omega.{arith}
+use Rattle.model.specs.Rows.{Reply, refused, granted, verdict}
+use Rattle.model.specs.Rules.{spaceRow, requestRows}
+use Rattle.model.specs.Record.{recordRows, requestOf, decode}
+use Rattle.model.specs.Answers.{numberOf}
+use Rattle.model.specs.Check.{checkRows, checkRequest}
+use Rattle.model.proofs.Rows.{andThen, decide-append, decide-verdict}
+use Rattle.model.specs.declared.Space.{Space}
+use Rattle.model.specs.declared.Request.{Request}
+
+-- the rows 1 and 6 to 10, where the record is whole; and what a decoding's answer makes of them
+abbrev rest : Space → Request → Reply (Unit {0})
+rest s r = verdict (spaceRow s ∷ requestRows s r)
+
+abbrev then : Reply Request → Space → ℕ
+then (refused n p) s = n
+then (granted r) s = numberOf (rest s r)
+
+by-verdict : (u : Reply (Unit {0})) (r : Request) (s : Space) → numberOf (andThen u (rest s r)) ≡ then (andThen u (granted r)) s
+by-verdict (refused n p) r s = refl
+by-verdict (granted t) r s = refl
+
+pub check-by : (bs : List ℕ) (s : Space) {d : Reply Request} → d ≡ decode bs → then d s ≡ checkRequest bs s
+unfolding checkRequest checkRows decode
+check-by bs s e =
+    ap (λ d. then d s) (e ∙ decide-verdict (recordRows bs) (requestOf bs))
+    ∙ sym (ap numberOf (decide-append (recordRows bs) (spaceRow s ∷ requestRows s (requestOf bs)) tt) ∙ by-verdict (verdict (recordRows bs)) (requestOf bs) s)
