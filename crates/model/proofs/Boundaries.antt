@@ -1,7 +1,6 @@
 -- Each boundary's answer: one test, computed over the whole listing.
 -- Assumes nothing.
-use mathlib.Core.Path.{_≡_, refl}
-use mathlib.Core.Bool.{Bool, true, false, _&&_}
+use mathlib.Core.Bool.{Bool, true, _&&_}
 use mathlib.Core.List.{List, [], _∷_}
 use lib.Dec.{T, eqb, eqb→eq}
 use Rattle.model.specs.Rows.{decide}

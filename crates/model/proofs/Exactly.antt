@@ -1,10 +1,8 @@
 -- The request check's answer is n exactly if line n of document 01's table applies and no line above it.
 -- Assumes nothing.
-use mathlib.Core.Path.{_≡_, refl, sym, subst}
+use mathlib.Core.Path.{refl, subst}
 use mathlib.Core.List.{List}
-use Prim.Native.Nat.{ℕ, _+_}
-use native.Mathlib.Omega.{arith}
-use Rattle.model.specs.Rows.{verdict, decide}
+use Prim.Native.Nat.{ℕ}
 use Rattle.model.specs.Rules.{formRows, requestRows}
 use Rattle.model.specs.Record.{requestOf, recordRows}
 use Rattle.model.specs.Answers.{numberOf}

@@ -1,15 +1,12 @@
 -- Numbers in bytes: by halves, and read back.
 -- Assumes nothing.
-use mathlib.Core.Path.{_≡_, refl, sym, ap, _∙_}
-use mathlib.Core.List.{List, [], _∷_, _++_}
+use mathlib.Core.Path.{_≡_, refl, ap, _∙_}
+use mathlib.Core.List.{List, [], _++_}
 use Prim.Native.Nat.{ℕ, zero, suc, _+_, _*_, _/_, _%_, _^_, _<_}
 use native.Mathlib.Omega.{arith}
-use native.Mathlib.Nat.{pow-succ', mul-assoc}
-use lib.ListN.{length, getD, drop}
-use lib.Seq.{drop-drop}
+use lib.ListN.{drop}
 use Rattle.model.specs.Record.{littleEndian, requestOf, bytesOf, recordOf}
-use Rattle.model.specs.Claims.{FitsRecord, ReadsBack}
-use Rattle.model.specs.declared.Request.{Request}
+use Rattle.model.specs.Claims.{ReadsBack}
 
 -- ── read back ──
 

@@ -1,13 +1,13 @@
 -- Laws of a list of rows, and of a table in words.
 -- Assumes nothing.
 use mathlib.Core.Path.{_≡_, refl, sym, subst, _∙_}
-use mathlib.Core.Logic.{_⊎_, inl, inr}
+use mathlib.Core.Logic.{inl, inr}
 use mathlib.Core.Bool.{Bool, true, false}
 use mathlib.Core.List.{List, [], _∷_, _++_}
 use lib.Dec.{T}
 use Rattle.model.specs.Rows.{all, Row, Reply, refused, granted, choose, decide, verdict}
 use Rattle.model.specs.Claims.{Table, line, otherwise, Gives}
-use Rattle.model.proofs.Tests.{Alls, Says, all-facts, all-true}
+use Rattle.model.proofs.Tests.{Says, all-facts, all-true}
 
 -- rows in front of others: their refusal, else what the others say
 abbrev pub andThen : {A : Type 0} → Reply (Unit {0}) → Reply A → Reply A

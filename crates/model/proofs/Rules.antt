@@ -1,16 +1,14 @@
 -- The tests of each rule hold exactly if the rule in words is kept.
 -- Assumes nothing.
-use mathlib.Core.Path.{_≡_, refl, sym, subst}
+use mathlib.Core.Path.{_≡_, refl}
 use mathlib.Core.Bool.{Bool, true, false}
-use mathlib.Core.List.{List, [], _∷_}
-use Prim.Native.Nat.{ℕ, zero, suc, _+_, _%_, _≤_, _<_, min, max}
+use Prim.Native.Nat.{ℕ, zero, suc, _+_, _≤_, _<_, min, max}
 use native.Mathlib.Omega.{arith}
-use lib.Dec.{T, leb, eqb}
+use lib.Dec.{leb}
 use borrow.Author.Tests.{leb-true, leb-false}
-use Rattle.model.specs.Rows.{all}
-use Rattle.model.specs.Rules.{page, apart, reservedTests, spaceTests, mappingTests, objectTests, offsetTests}
+use Rattle.model.specs.Rules.{reservedTests, spaceTests, mappingTests, objectTests, offsetTests}
 use Rattle.model.specs.Claims.{ShareByte, Reservation, SpaceRules, MappingRules, Mappings, ObjectRules, OffsetRules}
-use Rattle.model.proofs.Tests.{tests, Alls, Says, all-facts, all-true}
+use Rattle.model.proofs.Tests.{tests, Says, all-facts, all-true}
 use Rattle.model.specs.declared.Space.{Space}
 use Rattle.model.specs.declared.Mapping.{Mapping}
 use Rattle.model.specs.declared.Request.{Request}

@@ -2,13 +2,12 @@
 -- Assumes nothing.
 use mathlib.Core.Path.{_≡_}
 use mathlib.Core.List.{List, [], _∷_, _++_}
-use Prim.Native.Nat.{ℕ, _+_, _-_, _*_, _^_}
+use Prim.Native.Nat.{ℕ, _-_, _^_}
 use lib.ListN.{replicate}
 use Rattle.model.specs.Record.{recordOf}
 use Rattle.model.specs.Check.{spaceOf, checkRequest}
 use Rattle.model.specs.Claims.{Each}
 use Rattle.model.specs.declared.Space.{Space}
-use Rattle.model.specs.declared.Request.{Request}
 
 pub record Boundary : Type 0 where
   pub bytes : List ℕ

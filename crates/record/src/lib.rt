@@ -4,7 +4,7 @@ use model::Refusal;
 use model::Request;
 use model::Verdict;
 ghost use mathlib.Core.Path.{_≡_};
-ghost use Prim.Native.Nat.{ℕ, _+_, _≤_};
+ghost use Prim.Native.Nat.{_+_, _≤_};
 ghost use lib.ListN.{length};
 ghost use Rattle.model.specs.Record.{requestOf, decode};
 ghost use Rattle.model.specs.Answers.{decodedReply};
@@ -23,21 +23,27 @@ fn u16_at(bytes: &[u8], at: usize) -> u64
     requires { ⌜ at + 2 ≤ length (now bytes) ⌝ }
     ensures { λ x. ⌜ NumberAt (now (bytes .entry)) at 2 x ⌝ }
 {
-    u8_at(bytes, at) + 0x100 * u8_at(bytes, at + 1)
+    let low = u8_at(bytes, at);
+    let high = u8_at(bytes, at + 1);
+    low + 0x100 * high
 }
 
 fn u32_at(bytes: &[u8], at: usize) -> u64
     requires { ⌜ at + 4 ≤ length (now bytes) ⌝ }
     ensures { λ x. ⌜ NumberAt (now (bytes .entry)) at 4 x ⌝ }
 {
-    u16_at(bytes, at) + 0x1_0000 * u16_at(bytes, at + 2)
+    let low = u16_at(bytes, at);
+    let high = u16_at(bytes, at + 2);
+    low + 0x1_0000 * high
 }
 
 fn u64_at(bytes: &[u8], at: usize) -> u64
     requires { ⌜ at + 8 ≤ length (now bytes) ⌝ }
     ensures { λ x. ⌜ NumberAt (now (bytes .entry)) at 8 x ⌝ }
 {
-    u32_at(bytes, at) + 0x1_0000_0000 * u32_at(bytes, at + 4)
+    let low = u32_at(bytes, at);
+    let high = u32_at(bytes, at + 4);
+    low + 0x1_0000_0000 * high
 }
 
 // The fields of a whole record.

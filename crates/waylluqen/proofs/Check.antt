@@ -3,7 +3,6 @@
 use mathlib.Core.Path.{_≡_, refl, sym, ap, _∙_}
 use mathlib.Core.List.{List, _∷_}
 use Prim.Native.Nat.{ℕ}
-use native.Mathlib.Omega.{arith}
 use Rattle.model.specs.Rows.{Reply, refused, granted, verdict}
 use Rattle.model.specs.Rules.{spaceRow, requestRows}
 use Rattle.model.specs.Record.{recordRows, requestOf, decode}

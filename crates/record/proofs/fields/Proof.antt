@@ -1,41 +1,31 @@
+-- `record::fields` meets its contract.
+-- Assumes nothing.
 use Rattle.model.specs.Record.{requestOf}
 use borrow.Author.Needs.{needs}
 use Rattle.record.proofs.fields.Statement.{statement}
 use Rattle.record.proofs.fields.Tie as tie
-use Rattle.record.proofs.fields.Reads as reads
-use Rattle.record.proofs.fields.Lts as lts
-use Rattle.record.proofs.u32_at.Reads as u32-at-reads
-use Rattle.record.proofs.u64_at.Reads as u64-at-reads
 
--- src/lib.rt:49:13
 u32-at-requires : tie.Need-u32-at-requires
 u32-at-requires c κs = search needs
 
--- src/lib.rt:50:16
 u32-at-requires-2 : tie.Need-u32-at-requires-2
 u32-at-requires-2 c κs = search needs
 
--- src/lib.rt:51:17
 u32-at-requires-3 : tie.Need-u32-at-requires-3
 u32-at-requires-3 c κs = search needs
 
--- src/lib.rt:52:14
 u32-at-requires-4 : tie.Need-u32-at-requires-4
 u32-at-requires-4 c κs = search needs
 
--- src/lib.rt:53:18
 u64-at-requires : tie.Need-u64-at-requires
 u64-at-requires c κs = search needs
 
--- src/lib.rt:54:17
 u64-at-requires-2 : tie.Need-u64-at-requires-2
 u64-at-requires-2 c κs = search needs
 
--- src/lib.rt:55:15
 u64-at-requires-3 : tie.Need-u64-at-requires-3
 u64-at-requires-3 c κs = search needs
 
--- src/lib.rt:44:1
 returns : tie.Need-returns
 unfolding requestOf
 returns c = rw (c .before .before .before .before .before .before .u32-at .ensures .is, c .before .before .before .before .before .u32-at2 .ensures .is, c .before .before .before .before .u32-at3 .ensures .is, c .before .before .before .u32-at4 .ensures .is, c .before .before .u64-at .ensures .is, c .before .u64-at2 .ensures .is, c .u64-at3 .ensures .is)

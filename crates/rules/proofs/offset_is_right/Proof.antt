@@ -1,23 +1,19 @@
-use mathlib.Core.Path.{_≡_, refl, sym, ap, _∙_}
+-- `rules::offset_is_right` meets its contract.
+-- Assumes nothing.
+use mathlib.Core.Path.{refl, sym, ap, _∙_}
 use Rattle.model.specs.Rows.{all}
 use Rattle.model.specs.Rules.{offsetTests}
 use Rattle.rules.proofs.Laws.{not-zero}
 use borrow.Author.Needs.{needs}
 use Rattle.rules.proofs.offset_is_right.Statement.{statement}
 use Rattle.rules.proofs.offset_is_right.Tie as tie
-use Rattle.rules.proofs.offset_is_right.Reads as reads
-use Rattle.rules.proofs.offset_is_right.Lts as lts
-use Rattle.rules.proofs.sum_within.Reads as sum-within-reads
 
--- src/lib.rt:128:9
 sum-within-requires : tie.Need-sum-within-requires
 sum-within-requires c κs = search needs
 
--- src/lib.rt:128:9
 returns : tie.Need-returns
 returns c = let r = c .before .before .before .args .r in c .sum-within .ensures ∙ sym (ap (λ n. all (offsetTests n r)) (c .before .if1 .taken))
 
--- src/lib.rt:124:1
 returns-2 : tie.Need-returns-2
 returns-2 c = let r = c .before .before .args .r in sym (not-zero (λ n. all (offsetTests n r)) _ (r .op) (c .if1 .left) (λ k. refl))
 

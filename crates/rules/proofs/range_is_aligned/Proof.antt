@@ -1,23 +1,18 @@
+-- `rules::range_is_aligned` meets its contract.
+-- Assumes nothing.
 use borrow.Author.Needs.{needs}
 use Rattle.rules.proofs.range_is_aligned.Statement.{statement}
 use Rattle.rules.proofs.range_is_aligned.Tie as tie
-use Rattle.rules.proofs.range_is_aligned.Reads as reads
-use Rattle.rules.proofs.range_is_aligned.Lts as lts
-use Rattle.rules.proofs.is_aligned.Reads as is-aligned-reads
 
--- src/lib.rt:106:5
 is-aligned-requires : tie.Need-is-aligned-requires
 is-aligned-requires c κs = search needs
 
--- src/lib.rt:106:29
 is-aligned-requires-2 : tie.Need-is-aligned-requires-2
 is-aligned-requires-2 c κs = search needs
 
--- src/lib.rt:106:50
 is-aligned-requires-3 : tie.Need-is-aligned-requires-3
 is-aligned-requires-3 c κs = search needs
 
--- src/lib.rt:103:1
 returns : tie.Need-returns
 returns c = rw (c .before .before .before .is-aligned .ensures, c .before .before .is-aligned2 .ensures, c .before .is-aligned3 .ensures)
 

@@ -1,64 +1,48 @@
-use borrow.Author.Tests.{le-leb, lt-leb, not-true, not-false}
-use mathlib.Core.Path.{_≡_, refl, sym, ap, _∙_}
+-- `rules::request_verdict` meets its contract.
+-- Assumes nothing.
+use borrow.Author.Tests.{not-true, not-false}
+use mathlib.Core.Path.{sym, _∙_}
 use Rattle.model.specs.Rows.{decide}
 use Rattle.model.specs.Rules.{requestRows}
 use borrow.Author.Needs.{needs}
 use Rattle.rules.proofs.request_verdict.Statement.{statement}
 use Rattle.rules.proofs.request_verdict.Tie as tie
-use Rattle.rules.proofs.request_verdict.Reads as reads
-use Rattle.rules.proofs.request_verdict.Lts as lts
-use Rattle.rules.proofs.are_apart.Reads as are-apart-reads
-use Rattle.rules.proofs.object_is_right.Reads as object-is-right-reads
-use Rattle.rules.proofs.offset_is_right.Reads as offset-is-right-reads
-use Rattle.rules.proofs.range_is_aligned.Reads as range-is-aligned-reads
-use Rattle.rules.proofs.range_is_inside.Reads as range-is-inside-reads
 
--- src/lib.rt:150:9
 range-is-aligned-requires : tie.Need-range-is-aligned-requires
 range-is-aligned-requires c κs = search needs
 
--- src/lib.rt:151:9
 returns : tie.Need-returns
 unfolding decide requestRows
 returns c = simp (sym (c .before .range-is-aligned .ensures) ∙ not-true _ (c .if1 .taken))
 
--- src/lib.rt:153:9
 range-is-inside-requires : tie.Need-range-is-inside-requires
 range-is-inside-requires c κs = search needs
 
--- src/lib.rt:154:9
 returns-2 : tie.Need-returns-2
 unfolding decide requestRows
 returns-2 c = simp (sym (c .before .before .before .range-is-aligned .ensures) ∙ not-false _ (c .before .before .if1 .left), sym (c .before .range-is-inside .ensures) ∙ not-true _ (c .if2 .taken))
 
--- src/lib.rt:156:9
 are-apart-requires : tie.Need-are-apart-requires
 are-apart-requires c κs = search needs
 
--- src/lib.rt:157:9
 returns-3 : tie.Need-returns-3
 unfolding decide requestRows
 returns-3 c = simp (sym (c .before .before .before .before .before .range-is-aligned .ensures) ∙ not-false _ (c .before .before .before .before .if1 .left), sym (c .before .before .before .range-is-inside .ensures) ∙ not-false _ (c .before .before .if2 .left), sym (c .before .are-apart .ensures) ∙ not-true _ (c .if3 .taken))
 
--- src/lib.rt:159:9
 object-is-right-requires : tie.Need-object-is-right-requires
 object-is-right-requires c κs = search needs
 
--- src/lib.rt:160:9
 returns-4 : tie.Need-returns-4
 unfolding decide requestRows
 returns-4 c = simp (sym (c .before .before .before .before .before .before .before .range-is-aligned .ensures) ∙ not-false _ (c .before .before .before .before .before .before .if1 .left), sym (c .before .before .before .before .before .range-is-inside .ensures) ∙ not-false _ (c .before .before .before .before .if2 .left), sym (c .before .before .before .are-apart .ensures) ∙ not-false _ (c .before .before .if3 .left), sym (c .before .object-is-right .ensures) ∙ not-true _ (c .if4 .taken))
 
--- src/lib.rt:162:9
 offset-is-right-requires : tie.Need-offset-is-right-requires
 offset-is-right-requires c κs = search needs
 
--- src/lib.rt:163:9
 returns-5 : tie.Need-returns-5
 unfolding decide requestRows
 returns-5 c = simp (sym (c .before .before .before .before .before .before .before .before .before .range-is-aligned .ensures) ∙ not-false _ (c .before .before .before .before .before .before .before .before .if1 .left), sym (c .before .before .before .before .before .before .before .range-is-inside .ensures) ∙ not-false _ (c .before .before .before .before .before .before .if2 .left), sym (c .before .before .before .before .before .are-apart .ensures) ∙ not-false _ (c .before .before .before .before .if3 .left), sym (c .before .before .before .object-is-right .ensures) ∙ not-false _ (c .before .before .if4 .left), sym (c .before .offset-is-right .ensures) ∙ not-true _ (c .if5 .taken))
 
--- src/lib.rt:147:1
 returns-6 : tie.Need-returns-6
 unfolding decide requestRows
 returns-6 c = simp (sym (c .before .before .before .before .before .before .before .before .before .range-is-aligned .ensures) ∙ not-false _ (c .before .before .before .before .before .before .before .before .if1 .left), sym (c .before .before .before .before .before .before .before .range-is-inside .ensures) ∙ not-false _ (c .before .before .before .before .before .before .if2 .left), sym (c .before .before .before .before .before .are-apart .ensures) ∙ not-false _ (c .before .before .before .before .if3 .left), sym (c .before .before .before .object-is-right .ensures) ∙ not-false _ (c .before .before .if4 .left), sym (c .before .offset-is-right .ensures) ∙ not-false _ (c .if5 .left))

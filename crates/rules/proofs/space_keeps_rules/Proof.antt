@@ -1,46 +1,35 @@
+-- `rules::space_keeps_rules` meets its contract.
+-- Assumes nothing.
 use mathlib.Core.List.{_++_}
 use Rattle.model.specs.Rows.{all}
 use Rattle.model.specs.Rules.{extentTests, reservedTests}
 use Rattle.rules.proofs.Laws.{not-zero}
-use mathlib.Core.Path.{_≡_, refl, sym, ap, _∙_}
+use mathlib.Core.Path.{refl, sym, ap}
 use borrow.Author.Needs.{needs}
 use Rattle.rules.proofs.space_keeps_rules.Statement.{statement}
 use Rattle.rules.proofs.space_keeps_rules.Tie as tie
-use Rattle.rules.proofs.space_keeps_rules.Reads as reads
-use Rattle.rules.proofs.space_keeps_rules.Lts as lts
-use Rattle.rules.proofs.is_aligned.Reads as is-aligned-reads
-use Rattle.rules.proofs.sum_at_most.Reads as sum-at-most-reads
-use Rattle.rules.proofs.sum_within.Reads as sum-within-reads
 
--- src/lib.rt:73:17
 is-aligned-requires : tie.Need-is-aligned-requires
 is-aligned-requires c κs = search needs
 
--- src/lib.rt:74:11
 is-aligned-requires-2 : tie.Need-is-aligned-requires-2
 is-aligned-requires-2 c κs = search needs
 
--- src/lib.rt:75:11
 is-aligned-requires-3 : tie.Need-is-aligned-requires-3
 is-aligned-requires-3 c κs = search needs
 
--- src/lib.rt:76:11
 is-aligned-requires-4 : tie.Need-is-aligned-requires-4
 is-aligned-requires-4 c κs = search needs
 
--- src/lib.rt:78:11
 sum-within-requires : tie.Need-sum-within-requires
 sum-within-requires c κs = search needs
 
--- src/lib.rt:80:9
 returns : tie.Need-returns
 returns c = let s = c .before .before .before .before .before .before .before .before .before .args .s in rw (c .before .before .before .before .before .before .before .before .is-aligned .ensures, c .before .before .before .before .before .before .before .is-aligned2 .ensures, c .before .before .before .before .before .before .is-aligned3 .ensures, c .before .before .before .before .before .is-aligned4 .ensures, c .before .before .before .sum-within .ensures) (sym (ap (λ n. all (extentTests s ++ reservedTests n s)) (c .before .if1 .taken)))
 
--- src/lib.rt:84:11
 sum-at-most-requires : tie.Need-sum-at-most-requires
 sum-at-most-requires c κs = search needs
 
--- src/lib.rt:70:1
 returns-2 : tie.Need-returns-2
 returns-2 c = let s = c .before .before .before .before .before .before .before .before .before .before .args .s in rw (c .before .before .before .before .before .before .before .before .before .is-aligned .ensures, c .before .before .before .before .before .before .before .before .is-aligned2 .ensures, c .before .before .before .before .before .before .before .is-aligned3 .ensures, c .before .before .before .before .before .before .is-aligned4 .ensures, c .before .before .before .before .sum-within .ensures, c .sum-at-most .ensures) (sym (not-zero (λ n. all (extentTests s ++ reservedTests n s)) _ (s .reserved .size) (c .before .before .if1 .left) (λ k. refl)))
 

@@ -1,49 +1,38 @@
-use mathlib.Core.Path.{_≡_, sym, ap, _∙_}
+-- `waylluqen::space_and_request` meets its contract.
+-- Assumes nothing.
+use mathlib.Core.Path.{sym, ap, _∙_}
 use borrow.Author.Tests.{not-true, not-false}
 use Rattle.model.specs.Rows.{decide}
 use Rattle.model.specs.Answers.{numberOf, verdictReply}
 use borrow.Author.Needs.{needs}
 use Rattle.waylluqen.proofs.space_and_request.Statement.{statement}
 use Rattle.waylluqen.proofs.space_and_request.Tie as tie
-use Rattle.waylluqen.proofs.space_and_request.Reads as reads
-use Rattle.waylluqen.proofs.space_and_request.Lts as lts
-use Rattle.rules.proofs.refusal_number.Reads as refusal-number-reads
-use Rattle.rules.proofs.request_verdict.Reads as request-verdict-reads
-use Rattle.rules.proofs.space_keeps_rules.Reads as space-keeps-rules-reads
 
--- src/lib.rt:18:9
 space-keeps-rules-requires : tie.Need-space-keeps-rules-requires
 space-keeps-rules-requires c κs = search needs
 
--- src/lib.rt:19:9
 returns : tie.Need-returns
 unfolding decide
 returns c = simp (sym (c .before .space-keeps-rules .ensures) ∙ not-true _ (c .if1 .taken))
 
--- src/lib.rt:21:11
 request-verdict-requires : tie.Need-request-verdict-requires
 request-verdict-requires c κs = search needs
 
--- src/lib.rt:22:25
 enum-known-w : tie.Need-enum-known-w
 enum-known-w c = search needs
 
--- src/lib.rt:22:31
 refusal-number-requires : tie.Need-refusal-number-requires
 refusal-number-requires c κs = search needs
 
--- src/lib.rt:23:26
 enum-told : tie.Need-enum-told
 enum-told c = search needs
 
--- src/lib.rt:15:1
 returns-2 : tie.Need-returns-2
 unfolding decide
 returns-2 c =
     simp (sym (c .before .before .before .before .before .before .space-keeps-rules .ensures) ∙ not-false _ (c .before .before .before .before .before .if1 .left))
     (c .refusal-number .ensures ∙ ap numberOf (sym (ap verdictReply (c .before .before .w .given .1)) ∙ c .before .before .before .before .request-verdict .ensures))
 
--- src/lib.rt:15:1
 returns-3 : tie.Need-returns-3
 unfolding decide
 returns-3 c =
