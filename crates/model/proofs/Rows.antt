@@ -5,14 +5,14 @@ use mathlib.Core.Logic.{inl, inr}
 use mathlib.Core.Bool.{Bool, true, false}
 use mathlib.Core.List.{List, [], _∷_, _++_}
 use lib.Dec.{T}
-use Rattle.model.specs.Rows.{all, Row, Reply, refused, granted, choose, decide, verdict}
-use Rattle.model.specs.Claims.{Table, line, otherwise, Gives}
+use Rattle.model.specs.Rows.{all, Row, Reply, refused, answered, choose, decide, verdict}
+use Rattle.model.specs.Claims.{RefusalTable, line, otherwise, Gives}
 use Rattle.model.proofs.Tests.{Says, all-facts, all-true}
 
 -- rows in front of others: their refusal, else what the others say
 abbrev pub andThen : {A : Type 0} → Reply (Unit {0}) → Reply A → Reply A
 andThen (refused n p) b = refused n p
-andThen (granted u) b = b
+andThen (answered u) b = b
 
 pub decide-append : {A : Type 0} (ws vs : List Row) (a : A) → decide (ws ++ vs) a ≡ andThen (verdict ws) (decide vs a)
 unfolding decide
@@ -25,13 +25,13 @@ decide-append {A} (w ∷ ws) vs a = go (all (w .tests)) (decide-append ws vs a)
     go false ih = refl
 
 -- what the rows say, and then the answer
-pub decide-verdict : {A : Type 0} (ws : List Row) (a : A) → decide ws a ≡ andThen (verdict ws) (granted a)
+pub decide-verdict : {A : Type 0} (ws : List Row) (a : A) → decide ws a ≡ andThen (verdict ws) (answered a)
 unfolding decide
 decide-verdict [] a = refl
 decide-verdict (w ∷ ws) a = go (all (w .tests)) (decide-verdict ws a)
   where
-    go : (b : Bool) → decide ws a ≡ andThen (verdict ws) (granted a)
-        → choose b (decide ws a) (refused (w .number) (w .place)) ≡ andThen (choose b (verdict ws) (refused (w .number) (w .place))) (granted a)
+    go : (b : Bool) → decide ws a ≡ andThen (verdict ws) (answered a)
+        → choose b (decide ws a) (refused (w .number) (w .place)) ≡ andThen (choose b (verdict ws) (refused (w .number) (w .place))) (answered a)
     go true ih = ih
     go false ih = refl
 
@@ -39,13 +39,13 @@ decide-verdict (w ∷ ws) a = go (all (w .tests)) (decide-verdict ws a)
 
 module _ {A B : Type 0} (f : Reply A → B) (a : A) where
   -- row by row the same answer and the same rule; a rule that is kept may be used further down
-  abbrev pub Match : List Row → Table B → Type 0
-  Match [] (otherwise n) = f (granted a) ≡ n
+  abbrev pub Match : List Row → RefusalTable B → Type 0
+  Match [] (otherwise n) = f (answered a) ≡ n
   Match [] (line n Rule t) = ⊥
   Match (w ∷ ws) (otherwise n) = ⊥
   Match (w ∷ ws) (line n Rule t) = (f (refused (w .number) (w .place)) ≡ n) × Says (w .tests) Rule × (Rule → Match ws t)
 
-  pub match-gives : (ws : List Row) (t : Table B) → Match ws t → Gives t (f (decide ws a))
+  pub match-gives : (ws : List Row) (t : RefusalTable B) → Match ws t → Gives t (f (decide ws a))
   unfolding decide
   match-gives [] (otherwise n) m = m
   match-gives [] (line n Rule t) m = absurd m
@@ -58,7 +58,7 @@ module _ {A B : Type 0} (f : Reply A → B) (a : A) where
       go false e rest = inl (λ rule. subst T (sym (all-true (w .tests) (m .1 .1 rule)) ∙ e) tt, m .0)
 
 -- a table gives one answer
-pub gives-one : {A : Type 0} (t : Table A) {a b : A} → Gives t a → Gives t b → a ≡ b
+pub gives-one : {A : Type 0} (t : RefusalTable A) {a b : A} → Gives t a → Gives t b → a ≡ b
 gives-one (otherwise n) p q = p ∙ sym q
 gives-one (line n Rule t) (inl p) (inl q) = p .1 ∙ sym (q .1)
 gives-one (line n Rule t) (inl p) (inr q) = absurd (p .0 (q .0))

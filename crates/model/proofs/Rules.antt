@@ -7,7 +7,7 @@ use native.Mathlib.Omega.{arith}
 use lib.Dec.{leb}
 use borrow.Author.Tests.{leb-true, leb-false}
 use Rattle.model.specs.Rules.{reservedTests, spaceTests, mappingTests, objectTests, offsetTests}
-use Rattle.model.specs.Claims.{ShareByte, Reservation, SpaceRules, MappingRules, Mappings, ObjectRules, OffsetRules}
+use Rattle.model.specs.Claims.{ShareByte, Reservation, SpaceRules, MappingRules, MappingExactly, ObjectRules, OffsetRules}
 use Rattle.model.proofs.Tests.{tests, Says, all-facts, all-true}
 use Rattle.model.specs.declared.Space.{Space}
 use Rattle.model.specs.declared.Mapping.{Mapping}
@@ -74,8 +74,8 @@ mapping-says s m = (
   λ r. let k = shares-apart (m .address) (m .address + m .size) (s .reserved .start) (s .reserved .start + s .reserved .size) (r .unreserved) in omega tests,
 )
 
-pub mappings : Mappings
-mappings s m = (
+pub mapping-exactly : MappingExactly
+mapping-exactly s m = (
   λ e. mapping-says s m .0 (all-facts (mappingTests s m) e),
   λ r. all-true (mappingTests s m) (mapping-says s m .1 r),
 )

@@ -1,7 +1,7 @@
 -- What each case of an answer enum means in document 01's numbers.
 -- Assumes nothing.
 use Prim.Native.Nat.{ℕ}
-use Rattle.model.specs.Rows.{Reply, refused, granted}
+use Rattle.model.specs.Rows.{Reply, refused, answered}
 use Rattle.model.specs.declared.Request.{Request}
 use Rattle.model.specs.declared.Refusal.{Refusal}
 use Rattle.model.specs.declared.Refusal.the-variants.{BadSpace, BadTableLength, ShortOperations, BadCount, BadMapping, Unaligned, OutsideSpace, Reserved, BadObject, BadOffset, NoRoom, BadRecordLength, BadOp, BadFlags}
@@ -49,14 +49,14 @@ abbrev pub refusalReply : {A : Type 0} → Refusal → Reply A
 refusalReply w = refused (number w) (place w)
 
 abbrev pub verdictReply : Verdict → Reply (Unit {0})
-verdictReply Pass = granted tt
+verdictReply Pass = answered tt
 verdictReply (VerdictRefuse w) = refusalReply w
 
 abbrev pub decodedReply : Decoded → Reply Request
-decodedReply (Record r) = granted r
+decodedReply (Record r) = answered r
 decodedReply (Refuse w) = refusalReply w
 
 -- an answer that is one number: the refusal's, or 0
 abbrev pub numberOf : {A : Type 0} → Reply A → ℕ
 numberOf (refused n p) = n
-numberOf (granted a) = 0
+numberOf (answered a) = 0

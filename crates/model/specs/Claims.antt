@@ -72,17 +72,17 @@ OffsetRules r = r .op ≡ 0 → r .offset + r .size ≤ 2 ^ 48
 -- ── Exactly: the refusal table in words ──
 
 -- a table in words: lines from the top, each with its answer and its rule, and the answer where every rule is kept
-pub data Table (A : Type 0) : Type 1 where
-  line : A → Type 0 → Table A → Table A
-  otherwise : A → Table A
+pub data RefusalTable (A : Type 0) : Type 1 where
+  line : A → Type 0 → RefusalTable A → RefusalTable A
+  otherwise : A → RefusalTable A
 
 -- the table's answer: the first line's whose rule is broken
-abbrev pub Gives : {A : Type 0} → Table A → A → Type 0
+abbrev pub Gives : {A : Type 0} → RefusalTable A → A → Type 0
 Gives (line n Rule below) a = ((Rule → ⊥) × (a ≡ n)) ⊎ (Rule × Gives below a)
 Gives (otherwise n) a = a ≡ n
 
 -- the request check, of the request r in the bytes bs and the space s
-abbrev pub checkTable : List ℕ → Space → Request → Table ℕ
+abbrev pub checkTable : List ℕ → Space → Request → RefusalTable ℕ
 checkTable bs s r =
     line 12 (length bs ≡ 40)
     (line 13 (r .op < 2)
@@ -102,8 +102,8 @@ Exactly = (bs : List ℕ) (s : Space) (n : ℕ)
 
 -- ── the mapping rules: the tests hold exactly if the rules are kept ──
 
-abbrev pub Mappings : Type 0
-Mappings = (s : Space) (m : Mapping) → (all (mappingTests s m) ≡ true → MappingRules s m) × (MappingRules s m → all (mappingTests s m) ≡ true)
+abbrev pub MappingExactly : Type 0
+MappingExactly = (s : Space) (m : Mapping) → (all (mappingTests s m) ≡ true → MappingRules s m) × (MappingRules s m → all (mappingTests s m) ≡ true)
 
 -- ── the record: 40 bytes, and read back as the request that they were made of ──
 

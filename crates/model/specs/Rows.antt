@@ -25,7 +25,7 @@ row n bs = record { number = n; place = 0; tests = bs }
 -- the answer of a call: a refusal's number and place, or what was asked for
 pub data Reply (A : Type 0) : Type 0 where
   refused : ℕ → ℕ → Reply A
-  granted : A → Reply A
+  answered : A → Reply A
 
 abbrev pub choose : {A : Type 0} → Bool → Reply A → Reply A → Reply A
 choose true a b = a
@@ -33,7 +33,7 @@ choose false a b = b
 
 -- the first row that applies refuses; where none does, the answer is a
 unfoldable pub decide : {A : Type 0} → List Row → A → Reply A
-decide [] a = granted a
+decide [] a = answered a
 decide (w ∷ ws) a = choose (all (w .tests)) (decide ws a) (refused (w .number) (w .place))
 
 -- the rows alone: a refusal, or a pass

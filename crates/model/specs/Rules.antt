@@ -65,6 +65,18 @@ mappingTests s m =
 
 -- ── a request: op 0 maps, op 1 unmaps ──
 
+-- a request by numbers: flags and pad are 0
+abbrev pub byNumbers : ℕ → ℕ → ℕ → ℕ → ℕ → Request
+byNumbers op address size object offset = record {
+  op = op;
+  flags = 0;
+  object = object;
+  pad = 0;
+  address = address;
+  offset = offset;
+  size = size;
+}
+
 -- a map's object is from 1 on; an unmap has no object and no offset
 abbrev pub objectTests : ℕ → Request → List Bool
 objectTests zero r = leb 1 (r .object) ∷ leb (r .object) lastObject ∷ []

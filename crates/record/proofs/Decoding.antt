@@ -5,7 +5,7 @@ use mathlib.Core.List.{List}
 use Prim.Native.Nat.{ℕ}
 use lib.ListN.{length}
 use borrow.Author.Tests.{eq-eqb, ne-eqb}
-use Rattle.model.specs.Rows.{Reply, refused, granted, decide, verdict}
+use Rattle.model.specs.Rows.{Reply, refused, answered, decide, verdict}
 use Rattle.model.specs.Rules.{formRows}
 use Rattle.model.specs.Record.{recordBytes, requestOf, recordRows, decode}
 use Rattle.model.proofs.Rows.{andThen, decide-verdict}
@@ -17,7 +17,7 @@ decode-other bs h = rw (ne-eqb (length bs) recordBytes h)
 
 -- r is what the fields say, u what the rows of its form
 pub decode-whole : (bs : List ℕ) {r : Request} {u : Reply (Unit {0})} → length bs ≡ recordBytes → r ≡ requestOf bs → u ≡ verdict (formRows r)
-    → decode bs ≡ andThen u (granted r)
+    → decode bs ≡ andThen u (answered r)
 unfolding decode recordRows decide
 decode-whole bs {r} h f e =
     rw (eq-eqb (length bs) recordBytes h, ← f, e) (decide-verdict (formRows r) r)

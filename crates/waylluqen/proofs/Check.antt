@@ -3,7 +3,7 @@
 use mathlib.Core.Path.{_≡_, refl, sym, ap, _∙_}
 use mathlib.Core.List.{List, _∷_}
 use Prim.Native.Nat.{ℕ}
-use Rattle.model.specs.Rows.{Reply, refused, granted, verdict}
+use Rattle.model.specs.Rows.{Reply, refused, answered, verdict}
 use Rattle.model.specs.Rules.{spaceRow, requestRows}
 use Rattle.model.specs.Record.{recordRows, requestOf, decode}
 use Rattle.model.specs.Answers.{numberOf}
@@ -18,11 +18,11 @@ rest s r = verdict (spaceRow s ∷ requestRows s r)
 
 abbrev then : Reply Request → Space → ℕ
 then (refused n p) s = n
-then (granted r) s = numberOf (rest s r)
+then (answered r) s = numberOf (rest s r)
 
-by-verdict : (u : Reply (Unit {0})) (r : Request) (s : Space) → numberOf (andThen u (rest s r)) ≡ then (andThen u (granted r)) s
+by-verdict : (u : Reply (Unit {0})) (r : Request) (s : Space) → numberOf (andThen u (rest s r)) ≡ then (andThen u (answered r)) s
 by-verdict (refused n p) r s = refl
-by-verdict (granted t) r s = refl
+by-verdict (answered t) r s = refl
 
 pub check-by : (bs : List ℕ) (s : Space) {d : Reply Request} → d ≡ decode bs → then d s ≡ checkRequest bs s
 unfolding checkRequest checkRows decode

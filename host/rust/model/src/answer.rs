@@ -1,0 +1,12 @@
+//! The numbers of the answers.
+
+pub const OK: u32 = 0;
+pub const BAD_SPACE: u32 = 1;
+pub const UNALIGNED: u32 = 6;
+pub const OUTSIDE_SPACE: u32 = 7;
+pub const RESERVED: u32 = 8;
+pub const BAD_OBJECT: u32 = 9;
+pub const BAD_OFFSET: u32 = 10;
+pub const BAD_RECORD_LENGTH: u32 = 12;
+pub const BAD_OP: u32 = 13;
+pub const BAD_FLAGS: u32 = 14;

@@ -1,0 +1,38 @@
+//! The rules, written a second time in plain Rust, so that the library can be compared to them.
+//!
+//! It is made to be read next to the rules, not to be fast: sums are `u128`, so none wraps.
+
+#![no_std]
+#![forbid(unsafe_code)]
+
+pub mod answer;
+pub mod extent;
+pub mod random;
+pub mod request;
+pub mod space;
+
+pub use extent::Extent;
+pub use request::{decode, request_refusal, Request, MAP, RECORD_BYTES, UNMAP};
+pub use space::{space_holds, Space};
+
+/// Every address, size and offset is a multiple of a page.
+pub const PAGE: u64 = 4096;
+
+/// No space and no object goes above this.
+pub const LIMIT: u128 = 1 << 48;
+
+pub fn is_page_multiple(value: u64) -> bool {
+    value % PAGE == 0
+}
+
+/// The answer to a request record: the record first, then the space, then the request in it.
+pub fn check_request(record: &[u8], space: &Space) -> u32 {
+    let request = match decode(record) {
+        Ok(request) => request,
+        Err(refusal) => return refusal,
+    };
+    if !space_holds(space) {
+        return answer::BAD_SPACE;
+    }
+    request_refusal(&request, space).unwrap_or(answer::OK)
+}

@@ -1,0 +1,138 @@
+//! The model's answers to inputs that were worked out by hand.
+
+use waylluqen_model::{check_request, decode, space_holds, Request, Space, MAP, PAGE, UNMAP};
+
+const LIMIT: u64 = 1 << 48;
+const LAST_PAGE: u64 = u64::MAX - PAGE + 1;
+
+fn space(start: u64, size: u64, reserved_start: u64, reserved_size: u64) -> Space {
+    Space {
+        start,
+        size,
+        reserved_start,
+        reserved_size,
+    }
+}
+
+/// `[0x10_0000, 0x20_0000)` with `[0x14_0000, 0x18_0000)` reserved.
+fn common() -> Space {
+    space(0x10_0000, 0x10_0000, 0x14_0000, 0x4_0000)
+}
+
+fn request(op: u32, handle: u32, addr: u64, bo_offset: u64, range: u64) -> Request {
+    Request {
+        op,
+        flags: 0,
+        handle,
+        pad: 0,
+        addr,
+        bo_offset,
+        range,
+    }
+}
+
+fn answer(request: Request) -> u32 {
+    check_request(&request.encode(), &common())
+}
+
+#[test]
+fn fields_have_their_places() {
+    let mut record = [0; 40];
+    for (place, byte) in record.iter_mut().enumerate() {
+        *byte = place as u8;
+    }
+    record[0..8].copy_from_slice(&[1, 0, 0, 0, 0, 0, 0, 0]);
+    record[12..16].fill(0);
+    let expected = Request {
+        op: UNMAP,
+        flags: 0,
+        handle: 0x0b0a_0908,
+        pad: 0,
+        addr: 0x1716_1514_1312_1110,
+        bo_offset: 0x1f1e_1d1c_1b1a_1918,
+        range: 0x2726_2524_2322_2120,
+    };
+    assert_eq!(decode(&record), Ok(expected));
+    assert_eq!(expected.encode(), record);
+}
+
+#[test]
+fn records_are_refused() {
+    let good = request(MAP, 7, 0x10_0000, 0, PAGE);
+    let record = good.encode();
+    assert_eq!(decode(&record), Ok(good));
+    assert_eq!(decode(&record[..39]), Err(12));
+    assert_eq!(decode(&[record, record].concat()), Err(12));
+    assert_eq!(decode(&[]), Err(12));
+    let two_wrong = Request {
+        op: 2,
+        flags: 1,
+        ..good
+    };
+    assert_eq!(decode(&two_wrong.encode()), Err(13));
+    assert_eq!(decode(&Request { flags: 1, ..good }.encode()), Err(14));
+    assert_eq!(decode(&Request { pad: 1, ..good }.encode()), Err(14));
+}
+
+#[test]
+fn spaces_that_hold() {
+    assert!(space_holds(&common()));
+    assert!(space_holds(&space(0, LIMIT, 0, 0)));
+    assert!(space_holds(&space(LIMIT - PAGE, PAGE, 0, 0)));
+    assert!(space_holds(&space(PAGE, PAGE, PAGE, PAGE)));
+    assert!(space_holds(&space(0, 2 * PAGE, 0, PAGE)));
+}
+
+#[test]
+fn spaces_that_do_not_hold() {
+    assert!(!space_holds(&space(0, 0, 0, 0)));
+    assert!(!space_holds(&space(1, PAGE, 0, 0)));
+    assert!(!space_holds(&space(0, PAGE + 1, 0, 0)));
+    assert!(!space_holds(&space(0, LIMIT + PAGE, 0, 0)));
+    assert!(!space_holds(&space(LAST_PAGE, 2 * PAGE, 0, 0)));
+    assert!(!space_holds(&space(0, LIMIT, PAGE, 0)));
+    assert!(!space_holds(&space(0, LIMIT, 1, PAGE)));
+    assert!(!space_holds(&space(0, LIMIT, PAGE, PAGE + 1)));
+    assert!(!space_holds(&space(PAGE, PAGE, 0, PAGE)));
+    assert!(!space_holds(&space(PAGE, PAGE, PAGE, 2 * PAGE)));
+    assert!(!space_holds(&space(0, LIMIT, LAST_PAGE, 2 * PAGE)));
+}
+
+#[test]
+fn ranges() {
+    assert_eq!(answer(request(MAP, 7, 0x10_0000, 0, 0)), 6);
+    assert_eq!(answer(request(MAP, 7, 0x30_0000, 0, 0)), 6);
+    assert_eq!(answer(request(MAP, 7, 0x10_0001, 0, PAGE)), 6);
+    assert_eq!(answer(request(MAP, 7, 0x1f_f000, 0, PAGE)), 0);
+    assert_eq!(answer(request(MAP, 7, 0x1f_f000, 0, 2 * PAGE)), 7);
+    assert_eq!(answer(request(MAP, 7, LAST_PAGE, 0, 2 * PAGE)), 7);
+    assert_eq!(answer(request(MAP, 7, 0x13_f000, 0, PAGE)), 0);
+    assert_eq!(answer(request(MAP, 7, 0x13_f000, 0, 2 * PAGE)), 8);
+    assert_eq!(answer(request(UNMAP, 0, 0x17_f000, 0, 2 * PAGE)), 8);
+    assert_eq!(answer(request(UNMAP, 0, 0x18_0000, 0, PAGE)), 0);
+}
+
+#[test]
+fn objects_and_offsets() {
+    assert_eq!(answer(request(MAP, 0, 0x10_0000, 0, PAGE)), 9);
+    assert_eq!(answer(request(MAP, u32::MAX, 0x10_0000, 0, PAGE)), 0);
+    assert_eq!(answer(request(UNMAP, 7, 0x10_0000, 0, PAGE)), 9);
+    assert_eq!(answer(request(UNMAP, 0, 0x10_0000, 1, PAGE)), 6);
+    assert_eq!(answer(request(UNMAP, 0, 0x10_0000, PAGE, PAGE)), 9);
+    let highest = LIMIT - PAGE;
+    assert_eq!(answer(request(MAP, 7, 0x10_0000, highest, PAGE)), 0);
+    assert_eq!(answer(request(MAP, 7, 0x10_0000, highest, 2 * PAGE)), 10);
+    assert_eq!(answer(request(MAP, 7, 0x10_0000, LAST_PAGE, PAGE)), 10);
+    assert_eq!(answer(request(MAP, 7, 0x10_0000, LAST_PAGE, 2 * PAGE)), 10);
+}
+
+#[test]
+fn space_comes_after_the_record() {
+    let bad = space(1, 0, 0, 0);
+    let good = request(MAP, 7, 0x10_0000, 0, PAGE);
+    assert_eq!(check_request(&good.encode(), &bad), 1);
+    assert_eq!(check_request(&[], &bad), 12);
+    // The op is looked at before the space, and the space before the rest of the request.
+    assert_eq!(check_request(&request(2, 0, 1, 1, 0).encode(), &bad), 13);
+    assert_eq!(check_request(&request(MAP, 0, 1, 1, 0).encode(), &bad), 1);
+}

@@ -1,0 +1,403 @@
+//! Compares the library to the model, input by input.
+
+use waylluqen_model::random::Random;
+use waylluqen_model::{Request, Space, MAP, PAGE, RECORD_BYTES, UNMAP};
+
+const LIMIT: u64 = 1 << 48;
+const HALF: u64 = 1 << 63;
+const LONGEST_RECORD: usize = 80;
+
+const ANSWERS: [u32; 10] = [0, 1, 6, 7, 8, 9, 10, 12, 13, 14];
+
+/// What is added to a boundary: nothing, a byte and a page, on both sides.
+const DELTAS: [u64; 5] = [0, 1, 1u64.wrapping_neg(), PAGE, PAGE.wrapping_neg()];
+
+/// How often each answer came.
+#[derive(Default)]
+struct Tally {
+    seen: [u64; 16],
+    comparisons: u64,
+}
+
+impl Tally {
+    fn compare(&mut self, record: &[u8], space: &Space) {
+        let given = waylluqen::Space {
+            start: space.start,
+            size: space.size,
+            reserved_start: space.reserved_start,
+            reserved_size: space.reserved_size,
+        };
+        let library = waylluqen::check_request(record, given);
+        let model = waylluqen_model::check_request(record, space);
+        if library != model {
+            report_difference(record, space, library, model);
+        }
+        self.seen[model as usize] += 1;
+        self.comparisons += 1;
+    }
+
+    /// Each answer of `ANSWERS` came at least `least` times, and no other came.
+    fn assert_answers(&self, least: u64) {
+        for (answer, &times) in (0..).zip(&self.seen) {
+            if ANSWERS.contains(&answer) {
+                assert!(times >= least, "answer {answer} came only {times} times");
+            } else {
+                assert_eq!(times, 0, "answer {answer} came");
+            }
+        }
+    }
+}
+
+#[cold]
+fn report_difference(record: &[u8], space: &Space, library: u32, model: u32) -> ! {
+    let hex: Vec<String> = record.iter().map(|byte| format!("{byte:02x}")).collect();
+    panic!(
+        "library {library}, model {model}\nrecord, {} bytes: {}\n{space:#x?}",
+        record.len(),
+        hex.join(" ")
+    );
+}
+
+/// A number at one of the boundaries, or a byte or a page beside it. 2^64 is the wrapped 0.
+fn edge(random: &mut Random, space: &Space) -> u64 {
+    let boundary = random.pick(&[
+        0,
+        space.start,
+        space.start.wrapping_add(space.size),
+        space.reserved_start,
+        space.reserved_start.wrapping_add(space.reserved_size),
+        1 << 32,
+        LIMIT,
+        HALF,
+    ]);
+    boundary.wrapping_add(random.pick(&DELTAS))
+}
+
+/// A size such that the range from `start` ends at a boundary if the sum is wrapped.
+fn size_to_edge(random: &mut Random, space: &Space, start: u64) -> u64 {
+    edge(random, space).wrapping_sub(start)
+}
+
+/// A range of whole pages in `[start, end)`, as (start, size): often at one of the ends.
+fn pages_in(random: &mut Random, start: u64, end: u64) -> (u64, u64) {
+    let pages = (end - start) / PAGE;
+    let size = 1 + random.up_to(pages - 1);
+    let skipped = random.up_to(pages - size);
+    (start + skipped * PAGE, size * PAGE)
+}
+
+/// A space that keeps its rules.
+fn good_space(random: &mut Random) -> Space {
+    let highest = random.pick(&[LIMIT, LIMIT, 1 << 32, 16 * PAGE]);
+    let (start, size) = pages_in(random, 0, highest);
+    let (reserved_start, reserved_size) = match random.below(4) {
+        0 => (0, 0),
+        _ => pages_in(random, start, start + size),
+    };
+    Space {
+        start,
+        size,
+        reserved_start,
+        reserved_size,
+    }
+}
+
+/// A part of the space that is not reserved; the whole space where there is none.
+fn free_part(random: &mut Random, space: &Space) -> (u64, u64) {
+    let end = space.start + space.size;
+    let reserved_end = space.reserved_start + space.reserved_size;
+    if space.reserved_size == 0 {
+        return (space.start, end);
+    }
+    let below = (space.start, space.reserved_start);
+    let above = (reserved_end, end);
+    let parts = match random.below(2) {
+        0 => [below, above],
+        _ => [above, below],
+    };
+    let free = parts.into_iter().find(|(start, end)| start < end);
+    free.unwrap_or((space.start, end))
+}
+
+/// A request that keeps the rules in a good space, if the space has a free page.
+fn good_request(random: &mut Random, space: &Space) -> Request {
+    let (start, end) = free_part(random, space);
+    let (addr, range) = pages_in(random, start, end);
+    let op = random.pick(&[MAP, UNMAP]);
+    let (handle, bo_offset) = if op == MAP {
+        let offset = random.up_to((LIMIT - range) / PAGE) * PAGE;
+        (1 + random.up_to(u64::from(u32::MAX) - 1) as u32, offset)
+    } else {
+        (0, 0)
+    };
+    Request {
+        op,
+        flags: 0,
+        handle,
+        pad: 0,
+        addr,
+        bo_offset,
+        range,
+    }
+}
+
+/// Another value for a 32-bit field.
+fn other32(random: &mut Random) -> u32 {
+    let bit = 1 << random.below(32);
+    let any = random.next_u64() as u32;
+    random.pick(&[0, 1, 2, u32::MAX, u32::MAX - 1, bit, any])
+}
+
+/// Another value for a 64-bit field: at an edge, beside the present one, or any.
+fn other64(random: &mut Random, space: &Space, present: u64) -> u64 {
+    match random.below(8) {
+        0..=3 => edge(random, space),
+        4..=5 => present.wrapping_add(random.pick(&DELTAS)),
+        6 => present ^ (1 << random.below(64)),
+        _ => random.next_u64(),
+    }
+}
+
+/// Changes one field of the request, or two so that their sum is at an edge.
+fn disturb_request(random: &mut Random, request: &mut Request, space: &Space) {
+    match random.below(10) {
+        0 => request.op = other32(random),
+        1 => request.flags = other32(random),
+        2 => request.pad = other32(random),
+        3 => request.handle = other32(random),
+        4 => request.op = random.pick(&[MAP, UNMAP]),
+        5 => request.addr = other64(random, space, request.addr),
+        6 => request.bo_offset = other64(random, space, request.bo_offset),
+        7 => request.range = other64(random, space, request.range),
+        8 => {
+            request.addr = edge(random, space);
+            request.range = size_to_edge(random, space, request.addr);
+        }
+        _ => request.bo_offset = size_to_edge(random, space, request.range),
+    }
+}
+
+/// Changes one field of the space, or two so that their sum is at an edge.
+fn disturb_space(random: &mut Random, space: &mut Space) {
+    let before = *space;
+    match random.below(6) {
+        0 => space.start = other64(random, &before, before.start),
+        1 => space.size = other64(random, &before, before.size),
+        2 => space.reserved_start = other64(random, &before, before.reserved_start),
+        3 => space.reserved_size = other64(random, &before, before.reserved_size),
+        4 => {
+            space.start = edge(random, &before);
+            space.size = size_to_edge(random, &before, space.start);
+        }
+        _ => {
+            space.reserved_start = edge(random, &before);
+            space.reserved_size = size_to_edge(random, &before, space.reserved_start);
+        }
+    }
+}
+
+/// Copies the record to a random place in `buffer`, with random bytes after it, and answers it
+/// at a length that is mostly the right one.
+fn place<'a>(
+    random: &mut Random,
+    record: &[u8; RECORD_BYTES],
+    buffer: &'a mut [u8; 8 + LONGEST_RECORD],
+) -> &'a [u8] {
+    let start = random.below(8) as usize;
+    let mut length = RECORD_BYTES;
+    if random.once_in(50) {
+        length = random.below(1 + LONGEST_RECORD as u64) as usize;
+        random.fill(&mut buffer[start + RECORD_BYTES..]);
+    }
+    buffer[start..start + RECORD_BYTES].copy_from_slice(record);
+    &buffer[start..start + length]
+}
+
+#[test]
+fn good_inputs_and_those_near_them() {
+    const INPUTS: u64 = 4_000_000;
+    let mut random = Random::new(1);
+    let mut tally = Tally::default();
+    let mut buffer = [0; 8 + LONGEST_RECORD];
+    for _ in 0..INPUTS {
+        let mut space = good_space(&mut random);
+        let mut request = good_request(&mut random, &space);
+        for _ in 0..random.below(3) {
+            disturb_request(&mut random, &mut request, &space);
+        }
+        if random.once_in(4) {
+            disturb_space(&mut random, &mut space);
+        }
+        let record = place(&mut random, &request.encode(), &mut buffer);
+        tally.compare(record, &space);
+    }
+    tally.assert_answers(1000);
+    assert_eq!(tally.comparisons, INPUTS);
+}
+
+#[test]
+fn any_inputs() {
+    const INPUTS: u64 = 200_000;
+    let mut random = Random::new(2);
+    let mut tally = Tally::default();
+    for _ in 0..INPUTS {
+        let mut record = [0; RECORD_BYTES];
+        random.fill(&mut record);
+        // Random bytes of op, flags and pad would almost never get further than these.
+        for field in [0..4, 4..8, 12..16] {
+            if !random.once_in(8) {
+                record[field].fill(0);
+            }
+        }
+        let space = match random.below(4) {
+            0 => Space {
+                start: random.next_u64(),
+                size: random.next_u64(),
+                reserved_start: random.next_u64(),
+                reserved_size: random.next_u64(),
+            },
+            _ => good_space(&mut random),
+        };
+        tally.compare(&record, &space);
+    }
+    assert_eq!(tally.comparisons, INPUTS);
+}
+
+/// Every length from 0 to 80, of random bytes and of a good record followed by others.
+#[test]
+fn every_record_length() {
+    const ROUNDS: u64 = 500;
+    let mut random = Random::new(3);
+    let mut tally = Tally::default();
+    for _ in 0..ROUNDS {
+        let space = good_space(&mut random);
+        let mut bytes = [0; LONGEST_RECORD];
+        random.fill(&mut bytes);
+        let mut good = bytes;
+        good[..RECORD_BYTES].copy_from_slice(&good_request(&mut random, &space).encode());
+        for length in 0..=LONGEST_RECORD {
+            tally.compare(&bytes[..length], &space);
+            tally.compare(&good[..length], &space);
+        }
+    }
+    let lengths = 1 + LONGEST_RECORD as u64;
+    assert_eq!(tally.comparisons, ROUNDS * 2 * lengths);
+    assert_eq!(tally.seen[12], ROUNDS * 2 * (lengths - 1));
+}
+
+/// Each boundary with each of the deltas.
+fn edges(boundaries: &[u64]) -> Vec<u64> {
+    let beside = |boundary: &u64| DELTAS.map(|delta| boundary.wrapping_add(delta));
+    let mut all: Vec<u64> = boundaries.iter().flat_map(beside).collect();
+    all.sort_unstable();
+    all.dedup();
+    all
+}
+
+/// This range and offset with both ops and with the lowest and highest objects.
+fn compare_ops_and_objects(tally: &mut Tally, space: &Space, [addr, range, bo_offset]: [u64; 3]) {
+    for op in [MAP, UNMAP] {
+        for handle in [0, 1, u32::MAX] {
+            let request = Request {
+                op,
+                flags: 0,
+                handle,
+                pad: 0,
+                addr,
+                bo_offset,
+                range,
+            };
+            tally.compare(&request.encode(), space);
+        }
+    }
+}
+
+/// Every address, size and offset at an edge, together, in one space. Answers the number of
+/// inputs.
+fn compare_requests_at_edges(tally: &mut Tally, space: &Space) -> u64 {
+    let end = space.start + space.size;
+    let reserved_start = space.reserved_start;
+    let reserved_end = reserved_start + space.reserved_size;
+    let places = edges(&[
+        0,
+        space.start,
+        end,
+        reserved_start,
+        reserved_end,
+        LIMIT,
+        HALF,
+    ]);
+    let sizes = edges(&[0, 2 * PAGE, space.size, space.reserved_size, LIMIT, HALF]);
+    let offsets = edges(&[0, LIMIT - 2 * PAGE, LIMIT - space.size, HALF]);
+    for &addr in &places {
+        for &range in &sizes {
+            for &bo_offset in &offsets {
+                compare_ops_and_objects(tally, space, [addr, range, bo_offset]);
+            }
+        }
+    }
+    (places.len() * sizes.len() * offsets.len() * 6) as u64
+}
+
+#[test]
+fn requests_at_edges() {
+    let spaces = [
+        [0, LIMIT, 0, 0],
+        [0, LIMIT, LIMIT - 16 * PAGE, 16 * PAGE],
+        [0, 16 * PAGE, 0, 4 * PAGE],
+        [LIMIT - 16 * PAGE, 16 * PAGE, LIMIT - 8 * PAGE, 4 * PAGE],
+        [16 * PAGE, 32 * PAGE, 24 * PAGE, 8 * PAGE],
+        [16 * PAGE, 32 * PAGE, 16 * PAGE, 32 * PAGE],
+        [16 * PAGE, PAGE, 0, 0],
+    ];
+    let mut tally = Tally::default();
+    let mut expected = 0;
+    for [start, size, reserved_start, reserved_size] in spaces {
+        let space = Space {
+            start,
+            size,
+            reserved_start,
+            reserved_size,
+        };
+        expected += compare_requests_at_edges(&mut tally, &space);
+    }
+    assert_eq!(tally.comparisons, expected);
+    for answer in [0, 6, 7, 8, 9, 10] {
+        assert!(tally.seen[answer] > 0, "answer {answer} did not come");
+    }
+}
+
+#[test]
+fn spaces_at_edges() {
+    let numbers = edges(&[0, 4 * PAGE, 8 * PAGE, LIMIT, HALF]);
+    let request = Request {
+        op: UNMAP,
+        flags: 0,
+        handle: 0,
+        pad: 0,
+        addr: 4 * PAGE,
+        bo_offset: 0,
+        range: PAGE,
+    };
+    let record = request.encode();
+    let mut tally = Tally::default();
+    for &start in &numbers {
+        for &size in &numbers {
+            for &reserved_start in &numbers {
+                for &reserved_size in &numbers {
+                    let space = Space {
+                        start,
+                        size,
+                        reserved_start,
+                        reserved_size,
+                    };
+                    tally.compare(&record, &space);
+                }
+            }
+        }
+    }
+    assert_eq!(tally.comparisons, (numbers.len() as u64).pow(4));
+    for answer in [0, 1, 7, 8] {
+        assert!(tally.seen[answer] > 0, "answer {answer} did not come");
+    }
+}
