@@ -53,5 +53,6 @@ check-match bs s =
 pub exactly : Exactly
 unfolding checkRequest
 exactly bs s n =
-    let g : Gives (checkTable bs s (requestOf bs)) (checkRequest bs s) = match-gives numberOf (tt {0}) (checkRows bs s) (checkTable bs s (requestOf bs)) (check-match bs s) in
-    (λ e. subst (Gives (checkTable bs s (requestOf bs))) e g, λ h. gives-one (checkTable bs s (requestOf bs)) g h)
+    let t = checkTable bs s (requestOf bs) in
+    let g : Gives t (checkRequest bs s) = match-gives numberOf (tt {0}) (checkRows bs s) t (check-match bs s) in
+    (λ e. subst (Gives t) e g, λ h. gives-one t g h)

@@ -4,3 +4,4 @@ pub mod Rules
 pub mod Exactly
 pub mod Record
 pub mod Boundaries
+pub mod Answers

@@ -3,7 +3,7 @@
 use mathlib.Core.Path.{_≡_, refl, sym, subst, _∙_}
 use mathlib.Core.Logic.{inl, inr}
 use mathlib.Core.Bool.{Bool, true, false}
-use mathlib.Core.List.{List, [], _∷_, _++_}
+use mathlib.Core.List.{List, [], _∷_, _++_, append-nil}
 use lib.Dec.{T}
 use Rattle.model.specs.Rows.{all, Row, Reply, refused, answered, choose, decide, verdict}
 use Rattle.model.specs.Claims.{RefusalTable, line, otherwise, Gives}
@@ -17,23 +17,18 @@ andThen (answered u) b = b
 pub decide-append : {A : Type 0} (ws vs : List Row) (a : A) → decide (ws ++ vs) a ≡ andThen (verdict ws) (decide vs a)
 unfolding decide
 decide-append [] vs a = refl
-decide-append {A} (w ∷ ws) vs a = go (all (w .tests)) (decide-append ws vs a)
+decide-append (w ∷ ws) vs a = go (all (w .tests)) (decide-append ws vs a)
   where
     go : (b : Bool) → decide (ws ++ vs) a ≡ andThen (verdict ws) (decide vs a)
-        → choose b (decide (ws ++ vs) a) (refused (w .number) (w .place)) ≡ andThen (choose b (verdict ws) (refused (w .number) (w .place))) (decide vs a)
+        → choose b (decide (ws ++ vs) a) (refused (w .number) (w .place))
+        ≡ andThen (choose b (verdict ws) (refused (w .number) (w .place))) (decide vs a)
     go true ih = ih
     go false ih = refl
 
 -- what the rows say, and then the answer
 pub decide-verdict : {A : Type 0} (ws : List Row) (a : A) → decide ws a ≡ andThen (verdict ws) (answered a)
 unfolding decide
-decide-verdict [] a = refl
-decide-verdict (w ∷ ws) a = go (all (w .tests)) (decide-verdict ws a)
-  where
-    go : (b : Bool) → decide ws a ≡ andThen (verdict ws) (answered a)
-        → choose b (decide ws a) (refused (w .number) (w .place)) ≡ andThen (choose b (verdict ws) (refused (w .number) (w .place))) (answered a)
-    go true ih = ih
-    go false ih = refl
+decide-verdict ws a = rw append-nil at (decide-append ws [] a)
 
 -- ── rows as a table in words, f being how an answer is read ──
 

@@ -16,7 +16,7 @@ use Rattle.model.specs.declared.Request.{Request}
 -- ── ranges that share no byte ──
 
 pub apart-shares : (a b c d : ℕ) → min b d ≤ max a c → ShareByte a b c d → ⊥
-apart-shares a b c d h (x, p, q, r, s) = omega arith
+apart-shares a b c d h x = omega arith
 
 pub shares-apart : (a b c d : ℕ) → (ShareByte a b c d → ⊥) → min b d ≤ max a c
 shares-apart a b c d h = go (leb (min b d) (max a c)) refl
@@ -30,10 +30,16 @@ shares-apart a b c d h = go (leb (min b d) (max a c)) refl
 -- ── a space ──
 
 none-says : (s : Space) → s .reserved .size ≡ 0 → Says (reservedTests 0 s) (Reservation s)
-none-says s e = (λ h. record { none = λ _. omega tests; inside = λ h. absurd (omega arith) }, λ r. (omega (tests, r .none e), tt))
+none-says s e = (
+  λ h. record { none = λ _. omega tests; inside = λ h. absurd (omega arith) },
+  λ r. (omega (tests, r .none e), tt),
+)
 
 some-says : (s : Space) (n : ℕ) → s .reserved .size ≡ suc n → Says (reservedTests (suc n) s) (Reservation s)
-some-says s n e = (λ h. record { none = λ z. absurd (omega arith); inside = λ _. (omega tests, omega tests) }, λ r. omega (tests, r .inside (omega arith)))
+some-says s n e = (
+  λ h. record { none = λ z. absurd (omega arith); inside = λ _. (omega tests, omega tests) },
+  λ r. omega (tests, r .inside (omega arith)),
+)
 
 reserved-says : (s : Space) → Says (reservedTests (s .reserved .size) s) (Reservation s)
 reserved-says s = go (s .reserved .size) refl
@@ -69,9 +75,9 @@ mapping-says s m = (
     object-most = omega tests;
     offset-end-most = omega tests;
     within = (omega tests, omega tests);
-    unreserved = apart-shares (m .address) (m .address + m .size) (s .reserved .start) (s .reserved .start + s .reserved .size) (omega tests);
+    unreserved = apart-shares _ _ _ _ (omega tests);
   },
-  λ r. let k = shares-apart (m .address) (m .address + m .size) (s .reserved .start) (s .reserved .start + s .reserved .size) (r .unreserved) in omega tests,
+  λ r. let k = shares-apart _ _ _ _ (r .unreserved) in omega tests,
 )
 
 pub mapping-exactly : MappingExactly

@@ -9,10 +9,13 @@ use lib.ListN.{length}
 use Rattle.model.specs.Rows.{all}
 use Rattle.model.specs.Rules.{mappingTests}
 use Rattle.model.specs.Record.{requestOf, recordOf}
+use Rattle.model.specs.Answers.{verdictReply, decodedReply}
 use Rattle.model.specs.Check.{checkRequest}
 use Rattle.model.specs.declared.Space.{Space}
 use Rattle.model.specs.declared.Mapping.{Mapping}
 use Rattle.model.specs.declared.Request.{Request}
+use Rattle.model.specs.declared.Verdict.{Verdict}
+use Rattle.model.specs.declared.Decoded.{Decoded}
 
 abbrev pub Each : {A : Type 0} → (A → Type 0) → List A → Type 0
 Each P [] = Unit {0}
@@ -119,3 +122,10 @@ pub record FitsRecord (r : Request) : Type 0 where
 
 abbrev pub ReadsBack : Type 0
 ReadsBack = (r : Request) → FitsRecord r → (length (recordOf r) ≡ 40) × (requestOf (recordOf r) ≡ r)
+
+-- ── the answer enums: no two values read alike, so that a promise about the reading pins the value ──
+
+abbrev pub Pinned : Type 0
+Pinned =
+    ((u v : Verdict) → verdictReply u ≡ verdictReply v → u ≡ v)
+    × ((d e : Decoded) → decodedReply d ≡ decodedReply e → d ≡ e)

@@ -1,11 +1,11 @@
 -- Laws of tests on numbers.
 -- Assumes nothing.
-use mathlib.Core.Path.{_≡_, refl, sym}
-use mathlib.Core.Bool.{Bool, true, false, _||_}
+use mathlib.Core.Path.{_≡_, refl, sym, _∙_}
+use mathlib.Core.Bool.{Bool, true, false, not, _||_}
 use Prim.Native.Nat.{ℕ, zero, suc, _≤_, min}
 use native.Mathlib.Omega.{arith}
 use lib.Dec.{leb}
-use borrow.Author.Tests.{leb-true, leb-false, le-leb, lt-leb}
+use borrow.Author.Tests.{leb-true, leb-false, le-leb, lt-leb, not-true, not-false}
 
 -- two tests agree if their facts do
 pub leb-same : (a b c d : ℕ) → (a ≤ b → c ≤ d) → (c ≤ d → a ≤ b) → leb a b ≡ leb c d
@@ -30,3 +30,10 @@ leb-either x y z = go (leb x z) (leb y z) refl refl
 pub not-zero : {A : Type 0} (f : ℕ → A) (x : A) (n : ℕ) → (n ≡ 0 → ⊥) → ((k : ℕ) → f (suc k) ≡ x) → f n ≡ x
 not-zero f x zero h k = absurd (h refl)
 not-zero f x (suc n) h k = k n
+
+-- what `if !t` tells of the definition that t equals: on the way past it, and in its branch
+pub held : {t u : Bool} → t ≡ u → not t ≡ false → u ≡ true
+held {t} e n = sym e ∙ not-false t n
+
+pub failed : {t u : Bool} → t ≡ u → not t ≡ true → u ≡ false
+failed {t} e n = sym e ∙ not-true t n

@@ -27,5 +27,7 @@ by-verdict (answered t) r s = refl
 pub check-by : (bs : List ℕ) (s : Space) {d : Reply Request} → d ≡ decode bs → then d s ≡ checkRequest bs s
 unfolding checkRequest checkRows decode
 check-by bs s e =
-    ap (λ d. then d s) (e ∙ decide-verdict (recordRows bs) (requestOf bs))
-    ∙ sym (ap numberOf (decide-append (recordRows bs) (spaceRow s ∷ requestRows s (requestOf bs)) tt) ∙ by-verdict (verdict (recordRows bs)) (requestOf bs) s)
+    let r = requestOf bs in
+    ap (λ d. then d s) (e ∙ decide-verdict (recordRows bs) r)
+    ∙ sym (by-verdict (verdict (recordRows bs)) r s)
+    ∙ sym (ap numberOf (decide-append (recordRows bs) (spaceRow s ∷ requestRows s r) tt))

@@ -24,11 +24,19 @@ enum-told c = search needs
 
 returns-2 : tie.Need-returns-2
 returns-2 c =
-    sym (decode-whole (c .before .before .before .before .before .before .before .args .bytes .now) (c .before .before .before .before .before .if1 .left) (c .before .before .before .before .fields .ensures) (sym (ap verdictReply (c .before .w .given .1)) ∙ c .before .before .before .form-verdict .ensures))
+    let form = c .before .before .before in
+    let read = form .before in
+    let whole = read .before in
+    let bytes = whole .before .before .args .bytes .now in
+    sym (decode-whole bytes (whole .if1 .left) (read .fields .ensures) (sym (ap verdictReply (c .before .w .given .1)) ∙ form .form-verdict .ensures))
 
 returns-3 : tie.Need-returns-3
 returns-3 c =
-    sym (decode-whole (c .before .before .before .before .before .before .args .bytes .now) (c .before .before .before .before .if1 .left) (c .before .before .before .fields .ensures) (sym (ap verdictReply (c .enum-told .given .1)) ∙ c .before .before .form-verdict .ensures))
+    let form = c .before .before in
+    let read = form .before in
+    let whole = read .before in
+    let bytes = whole .before .before .args .bytes .now in
+    sym (decode-whole bytes (whole .if1 .left) (read .fields .ensures) (sym (ap verdictReply (c .enum-told .given .1)) ∙ form .form-verdict .ensures))
 
 pub decode-spec : {M : Type 1} → statement M
 decode-spec =

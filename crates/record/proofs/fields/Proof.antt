@@ -28,7 +28,18 @@ u64-at-requires-3 c κs = search needs
 
 returns : tie.Need-returns
 unfolding requestOf
-returns c = rw (c .before .before .before .before .before .before .u32-at .ensures .is, c .before .before .before .before .before .u32-at2 .ensures .is, c .before .before .before .before .u32-at3 .ensures .is, c .before .before .before .u32-at4 .ensures .is, c .before .before .u64-at .ensures .is, c .before .u64-at2 .ensures .is, c .u64-at3 .ensures .is)
+returns c =
+    let d = c .before .before in
+    let b = d .before in
+    rw (
+      b .before .before .before .u32-at .ensures .is,
+      b .before .before .u32-at2 .ensures .is,
+      b .before .u32-at3 .ensures .is,
+      b .u32-at4 .ensures .is,
+      d .u64-at .ensures .is,
+      c .before .u64-at2 .ensures .is,
+      c .u64-at3 .ensures .is,
+    )
 
 pub fields-spec : {M : Type 1} → statement M
 fields-spec =

@@ -16,7 +16,10 @@ sum-within-requires-2 : tie.Need-sum-within-requires-2
 sum-within-requires-2 c κs = search needs
 
 returns : tie.Need-returns
-returns c = let x = c .before .before .before .args in rw (c .before .sum-within .ensures, c .sum-within2 .ensures, c .before .before .greater .ensures) (leb-either (x .a + x .n) (x .c + x .m) (max (x .a) (x .c)))
+returns c =
+    let x = c .before .before .before .args in
+    rw (c .before .sum-within .ensures, c .sum-within2 .ensures, c .before .before .greater .ensures)
+    (leb-either (x .a + x .n) (x .c + x .m) (max (x .a) (x .c)))
 
 pub are-apart-spec : {M : Type 1} → statement M
 are-apart-spec =

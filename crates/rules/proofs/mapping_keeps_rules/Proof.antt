@@ -23,7 +23,17 @@ are-apart-requires : tie.Need-are-apart-requires
 are-apart-requires c κs = search needs
 
 returns : tie.Need-returns
-returns c = rw (c .before .before .before .before .before .before .before .before .before .before .is-aligned .ensures, c .before .before .before .before .before .before .before .before .before .is-aligned2 .ensures, c .before .before .before .before .before .before .before .before .is-aligned3 .ensures, c .before .before .before .before .sum-within .ensures, c .before .sum-at-most .ensures, c .are-apart .ensures)
+returns c =
+    let sums = c .before .before .before .before in
+    let a3 = sums .before .before .before .before in
+    rw (
+      a3 .before .before .is-aligned .ensures,
+      a3 .before .is-aligned2 .ensures,
+      a3 .is-aligned3 .ensures,
+      sums .sum-within .ensures,
+      c .before .sum-at-most .ensures,
+      c .are-apart .ensures,
+    )
 
 pub mapping-keeps-rules-spec : {M : Type 1} → statement M
 mapping-keeps-rules-spec =

@@ -25,13 +25,36 @@ sum-within-requires : tie.Need-sum-within-requires
 sum-within-requires c κs = search needs
 
 returns : tie.Need-returns
-returns c = let s = c .before .before .before .before .before .before .before .before .before .args .s in rw (c .before .before .before .before .before .before .before .before .is-aligned .ensures, c .before .before .before .before .before .before .before .is-aligned2 .ensures, c .before .before .before .before .before .before .is-aligned3 .ensures, c .before .before .before .before .before .is-aligned4 .ensures, c .before .before .before .sum-within .ensures) (sym (ap (λ n. all (extentTests s ++ reservedTests n s)) (c .before .if1 .taken)))
+returns c =
+    let end = c .before .before .before in
+    let a4 = end .before .before in
+    let s = a4 .before .before .before .before .args .s in
+    rw (
+      a4 .before .before .before .is-aligned .ensures,
+      a4 .before .before .is-aligned2 .ensures,
+      a4 .before .is-aligned3 .ensures,
+      a4 .is-aligned4 .ensures,
+      end .sum-within .ensures,
+    )
+    (sym (ap (λ n. all (extentTests s ++ reservedTests n s)) (c .before .if1 .taken)))
 
 sum-at-most-requires : tie.Need-sum-at-most-requires
 sum-at-most-requires c κs = search needs
 
 returns-2 : tie.Need-returns-2
-returns-2 c = let s = c .before .before .before .before .before .before .before .before .before .before .args .s in rw (c .before .before .before .before .before .before .before .before .before .is-aligned .ensures, c .before .before .before .before .before .before .before .before .is-aligned2 .ensures, c .before .before .before .before .before .before .before .is-aligned3 .ensures, c .before .before .before .before .before .before .is-aligned4 .ensures, c .before .before .before .before .sum-within .ensures, c .sum-at-most .ensures) (sym (not-zero (λ n. all (extentTests s ++ reservedTests n s)) _ (s .reserved .size) (c .before .before .if1 .left) (λ k. refl)))
+returns-2 c =
+    let end = c .before .before .before .before in
+    let a4 = end .before .before in
+    let s = a4 .before .before .before .before .args .s in
+    rw (
+      a4 .before .before .before .is-aligned .ensures,
+      a4 .before .before .is-aligned2 .ensures,
+      a4 .before .is-aligned3 .ensures,
+      a4 .is-aligned4 .ensures,
+      end .sum-within .ensures,
+      c .sum-at-most .ensures,
+    )
+    (sym (not-zero (λ n. all (extentTests s ++ reservedTests n s)) _ (s .reserved .size) (c .before .before .if1 .left) (λ k. refl)))
 
 pub space-keeps-rules-spec : {M : Type 1} → statement M
 space-keeps-rules-spec =

@@ -16,7 +16,9 @@ sub-result : tie.Need-sub-result
 sub-result c = search needs
 
 returns-2 : tie.Need-returns-2
-returns-2 c = let x = c .before .before .args in leb-same (x .b - x .d) (x .c - x .a) (x .a + x .b) (x .c + x .d) (λ h. omega arith) (λ h. omega arith)
+returns-2 c =
+    let x = c .before .before .args in
+    leb-same (x .b - x .d) (x .c - x .a) (x .a + x .b) (x .c + x .d) (λ h. omega arith) (λ h. omega arith)
 
 returns-3 : tie.Need-returns-3
 returns-3 c = let x = c .before .before .args in sym (lt-leb (x .a + x .b) (x .c + x .d) (omega arith))
@@ -25,7 +27,9 @@ sub-result-2 : tie.Need-sub-result-2
 sub-result-2 c = search needs
 
 returns-4 : tie.Need-returns-4
-returns-4 c = let x = c .before .before .args in leb-same (x .a - x .c) (x .d - x .b) (x .a + x .b) (x .c + x .d) (λ h. omega arith) (λ h. omega arith)
+returns-4 c =
+    let x = c .before .before .args in
+    leb-same (x .a - x .c) (x .d - x .b) (x .a + x .b) (x .c + x .d) (λ h. omega arith) (λ h. omega arith)
 
 pub sum-at-most-spec : {M : Type 1} → statement M
 sum-at-most-spec =

@@ -1,7 +1,7 @@
 -- `waylluqen::space_and_request` meets its contract.
 -- Assumes nothing.
+use Rattle.rules.proofs.Laws.{held, failed}
 use mathlib.Core.Path.{sym, ap, _∙_}
-use borrow.Author.Tests.{not-true, not-false}
 use Rattle.model.specs.Rows.{decide}
 use Rattle.model.specs.Answers.{numberOf, verdictReply}
 use borrow.Author.Needs.{needs}
@@ -13,7 +13,7 @@ space-keeps-rules-requires c κs = search needs
 
 returns : tie.Need-returns
 unfolding decide
-returns c = simp (sym (c .before .space-keeps-rules .ensures) ∙ not-true _ (c .if1 .taken))
+returns c = simp (failed (c .before .space-keeps-rules .ensures) (c .if1 .taken))
 
 request-verdict-requires : tie.Need-request-verdict-requires
 request-verdict-requires c κs = search needs
@@ -30,14 +30,18 @@ enum-told c = search needs
 returns-2 : tie.Need-returns-2
 unfolding decide
 returns-2 c =
-    simp (sym (c .before .before .before .before .before .before .space-keeps-rules .ensures) ∙ not-false _ (c .before .before .before .before .before .if1 .left))
-    (c .refusal-number .ensures ∙ ap numberOf (sym (ap verdictReply (c .before .before .w .given .1)) ∙ c .before .before .before .before .request-verdict .ensures))
+    let rows = c .before .before .before .before in
+    let kept = rows .before in
+    simp (held (kept .before .space-keeps-rules .ensures) (kept .if1 .left))
+    (c .refusal-number .ensures ∙ ap numberOf (sym (ap verdictReply (c .before .before .w .given .1)) ∙ rows .request-verdict .ensures))
 
 returns-3 : tie.Need-returns-3
 unfolding decide
 returns-3 c =
-    simp (sym (c .before .before .before .before .space-keeps-rules .ensures) ∙ not-false _ (c .before .before .before .if1 .left))
-    (ap numberOf (sym (ap verdictReply (c .enum-told .given .1)) ∙ c .before .before .request-verdict .ensures))
+    let rows = c .before .before in
+    let kept = rows .before in
+    simp (held (kept .before .space-keeps-rules .ensures) (kept .if1 .left))
+    (ap numberOf (sym (ap verdictReply (c .enum-told .given .1)) ∙ rows .request-verdict .ensures))
 
 pub space-and-request-spec : {M : Type 1} → statement M
 space-and-request-spec =

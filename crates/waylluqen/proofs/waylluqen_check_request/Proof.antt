@@ -26,14 +26,14 @@ space-and-request-requires c κs = search needs
 returns : tie.Need-returns
 returns c =
     let x = c .before .before .before .before .before .before .args in
-    c .refusal-number .ensures
-    ∙ check-by (x .«record» .now) (spaceOf (x .start) (x .size) (x .reserved-start) (x .reserved-size)) (sym (ap decodedReply (c .before .before .w .given .1)) ∙ c .before .before .before .before .decode .ensures)
+    let s = spaceOf (x .start) (x .size) (x .reserved-start) (x .reserved-size) in
+    c .refusal-number .ensures ∙ check-by (x .«record» .now) s (sym (ap decodedReply (c .before .before .w .given .1)) ∙ c .before .before .before .before .decode .ensures)
 
 returns-2 : tie.Need-returns-2
 returns-2 c =
     let x = c .before .before .before .before .before .before .args in
-    c .space-and-request .ensures
-    ∙ check-by (x .«record» .now) (spaceOf (x .start) (x .size) (x .reserved-start) (x .reserved-size)) (sym (ap decodedReply (c .before .before .r .given .1)) ∙ c .before .before .before .before .decode .ensures)
+    let s = spaceOf (x .start) (x .size) (x .reserved-start) (x .reserved-size) in
+    c .space-and-request .ensures ∙ check-by (x .«record» .now) s (sym (ap decodedReply (c .before .before .r .given .1)) ∙ c .before .before .before .before .decode .ensures)
 
 pub waylluqen-check-request-spec : {M : Type 1} → statement M
 waylluqen-check-request-spec =
