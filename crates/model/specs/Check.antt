@@ -1,4 +1,4 @@
--- The request check that a C driver calls: the 40 bytes and the space's four numbers.
+-- The request check (document 01: 'A C driver hands over the 40 bytes and the space's four numbers').
 -- Assumes nothing.
 use mathlib.Core.List.{List, _∷_, _++_}
 use Prim.Native.Nat.{ℕ}

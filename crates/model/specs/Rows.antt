@@ -1,4 +1,4 @@
--- The refusal table as data: a call lists rows, and the first from the top that applies is the answer.
+-- The refusal table as data (document 01): a call lists rows, and the first from the top that applies is the answer.
 -- Assumes nothing.
 use mathlib.Core.List.{List, [], _∷_}
 use mathlib.Core.Bool.{Bool, true, false, _&&_}

@@ -1,4 +1,4 @@
--- The rules of a space, a mapping and a request (document 01: Sizes, Space, Mapping, the refusal table), as tests.
+-- The rules of a space, a mapping and a request as tests, and each line of document 01's refusal table as a named row.
 -- Sums are exact, in ℕ. Ranges are half-open.
 -- Assumes nothing.
 use mathlib.Core.List.{List, [], _∷_, _++_}
@@ -10,11 +10,12 @@ use Rattle.model.specs.declared.Space.{Space}
 use Rattle.model.specs.declared.Mapping.{Mapping}
 use Rattle.model.specs.declared.Request.{Request}
 
--- ── sizes: a page; where a space and an offset plus size end at the latest; the last object ──
+-- ── document 01: Sizes ──
 
 abbrev pub page : ℕ
 page = 4096
 
+-- a space, and an offset plus size, ends at or below it
 abbrev pub limit : ℕ
 limit = 2 ^ 48
 
@@ -34,7 +35,7 @@ inside a b c d = leb c a ∷ leb b d ∷ []
 abbrev pub apart : ℕ → ℕ → ℕ → ℕ → Bool
 apart a b c d = leb (min b d) (max a c)
 
--- ── a space ──
+-- ── document 01: Space ──
 
 abbrev pub extentTests : Space → List Bool
 extentTests s =
@@ -51,7 +52,7 @@ reservedTests (suc n) s = inside (s .reserved .start) (s .reserved .start + s .r
 abbrev pub spaceTests : Space → List Bool
 spaceTests s = extentTests s ++ reservedTests (s .reserved .size) s
 
--- ── a mapping ──
+-- ── document 01: Mapping. That each ends at or before the next one's address is the table's rule, not the mapping's ──
 
 abbrev pub mappingTests : Space → Mapping → List Bool
 mappingTests s m =
@@ -63,7 +64,7 @@ mappingTests s m =
     ∷ apart (m .address) (m .address + m .size) (s .reserved .start) (s .reserved .start + s .reserved .size)
     ∷ []
 
--- ── a request: op 0 maps, op 1 unmaps ──
+-- ── a request: op 0 maps, op 1 unmaps; 13 keeps any other op away from the tests that go by it ──
 
 -- a request by numbers: flags and pad are 0
 abbrev pub byNumbers : ℕ → ℕ → ℕ → ℕ → ℕ → Request
@@ -86,7 +87,7 @@ abbrev pub offsetTests : ℕ → Request → List Bool
 offsetTests zero r = leb (r .offset + r .size) limit ∷ []
 offsetTests (suc n) r = []
 
--- ── the rows, each a line of document 01's table ──
+-- ── document 01: the refusal table, a row a line ──
 
 -- op neither 0 nor 1
 abbrev pub opRow : Request → Row

@@ -1,6 +1,7 @@
 // The C boundary: what a C or Rust driver links. host/include/waylluqen.h declares it.
 use model::Decoded;
 use model::Range;
+use model::Refusal;
 use model::Request;
 use model::Space;
 use model::Verdict;
@@ -8,17 +9,24 @@ ghost use mathlib.Core.Path.{_≡_};
 ghost use mathlib.Core.List.{_∷_};
 ghost use Rattle.model.specs.Rows.{verdict};
 ghost use Rattle.model.specs.Rules.{spaceRow, requestRows};
-ghost use Rattle.model.specs.Answers.{numberOf};
+ghost use Rattle.model.specs.Answers.{numberOf, verdictReply};
 ghost use Rattle.model.specs.Check.{spaceOf, checkRequest};
 
-// Rows 1 and 6 to 10: the number of the first that applies, or 0.
-fn space_and_request(s: Space, r: Request) -> u32
-    ensures { λ n. ⌜ n ≡ numberOf (verdict (spaceRow s ∷ requestRows s r)) ⌝ }
+// Rows 1 and 6 to 10.
+fn space_and_request(s: Space, r: Request) -> Verdict
+    ensures { λ v. ⌜ verdictReply v ≡ verdict (spaceRow s ∷ requestRows s r) ⌝ }
 {
     if !rules::space_keeps_rules(s) {
-        return 1;
+        return Verdict::Refuse(Refusal::BadSpace);
     }
-    match rules::request_verdict(s, r) {
+    rules::request_verdict(s, r)
+}
+
+// A verdict as a number: the refusal's, or 0.
+fn verdict_number(v: Verdict) -> u32
+    ensures { λ n. ⌜ n ≡ numberOf (verdictReply v) ⌝ }
+{
+    match v {
         Verdict::Refuse(w) => rules::refusal_number(w),
         Verdict::Pass => 0,
     }
@@ -45,6 +53,6 @@ pub extern "C" fn waylluqen_check_request(
     };
     match record::decode(record) {
         Decoded::Refuse(w) => rules::refusal_number(w),
-        Decoded::Record(r) => space_and_request(s, r),
+        Decoded::Record(r) => verdict_number(space_and_request(s, r)),
     }
 }

@@ -1,7 +1,7 @@
 -- `waylluqen::waylluqen_check_request` meets its contract.
 -- Assumes nothing.
 use mathlib.Core.Path.{sym, ap, _∙_}
-use Rattle.model.specs.Answers.{decodedReply}
+use Rattle.model.specs.Answers.{numberOf, decodedReply}
 use Rattle.model.specs.Check.{spaceOf}
 use Rattle.waylluqen.proofs.Check.{check-by}
 use borrow.Author.Needs.{needs}
@@ -23,17 +23,22 @@ enum-known-r c = search needs
 space-and-request-requires : tie.Need-space-and-request-requires
 space-and-request-requires c κs = search needs
 
+verdict-number-requires : tie.Need-verdict-number-requires
+verdict-number-requires c κs = search needs
+
 returns : tie.Need-returns
 returns c =
     let x = c .before .before .before .before .before .before .args in
     let s = spaceOf (x .start) (x .size) (x .reserved-start) (x .reserved-size) in
-    c .refusal-number .ensures ∙ check-by (x .«record» .now) s (sym (ap decodedReply (c .before .before .w .given .1)) ∙ c .before .before .before .before .decode .ensures)
+    let read = sym (ap decodedReply (c .before .before .w .given .1)) ∙ c .before .before .before .before .decode .ensures in
+    c .refusal-number .ensures ∙ check-by (x .«record» .now) s read
 
 returns-2 : tie.Need-returns-2
 returns-2 c =
-    let x = c .before .before .before .before .before .before .args in
+    let x = c .before .before .before .before .before .before .before .args in
     let s = spaceOf (x .start) (x .size) (x .reserved-start) (x .reserved-size) in
-    c .space-and-request .ensures ∙ check-by (x .«record» .now) s (sym (ap decodedReply (c .before .before .r .given .1)) ∙ c .before .before .before .before .decode .ensures)
+    let read = sym (ap decodedReply (c .before .before .before .r .given .1)) ∙ c .before .before .before .before .before .decode .ensures in
+    c .verdict-number .ensures ∙ ap numberOf (c .before .space-and-request .ensures) ∙ check-by (x .«record» .now) s read
 
 pub waylluqen-check-request-spec : {M : Type 1} → statement M
 waylluqen-check-request-spec =
@@ -44,5 +49,6 @@ waylluqen-check-request-spec =
     refusal-number-requires
     enum-known-r
     space-and-request-requires
+    verdict-number-requires
     returns
     returns-2)
