@@ -5,15 +5,18 @@ use mathlib.Core.List.{List, [], _∷_}
 use Prim.Native.Nat.{ℕ, _-_}
 use lib.ListN.{getD}
 use Rattle.model.specs.Rows.{Reply, refused, answered}
-use Rattle.model.specs.Answers.{number, place, verdictReply, decodedReply}
-use Rattle.model.specs.Claims.{Pinned}
-use Rattle.model.specs.declared.Request.{Request}
+use Rattle.model.specs.Calls.{numbered, verdictReply, decodedReply, answerReply, foundReply}
+use Rattle.model.specs.Exactly.{Pins, Pinned}
 use Rattle.model.specs.declared.Refusal.{Refusal}
 use Rattle.model.specs.declared.Refusal.the-variants.{BadSpace, BadTableLength, ShortOperations, BadCount, BadMapping, Unaligned, OutsideSpace, Reserved, BadObject, BadOffset, NoRoom, BadRecordLength, BadOp, BadFlags}
 use Rattle.model.specs.declared.Verdict.{Verdict}
 use Rattle.model.specs.declared.Verdict.the-variants.{Pass, Refuse as VerdictRefuse}
 use Rattle.model.specs.declared.Decoded.{Decoded}
 use Rattle.model.specs.declared.Decoded.the-variants.{Record, Refuse}
+use Rattle.model.specs.declared.Answer.{Answer}
+use Rattle.model.specs.declared.Answer.the-variants.{Granted, Refused}
+use Rattle.model.specs.declared.Found.{Found}
+use Rattle.model.specs.declared.Found.the-variants.{Shows, Refused as FoundRefused}
 
 abbrev refusals : ℕ → List Refusal
 refusals p =
@@ -24,41 +27,50 @@ refusals p =
 abbrev named : ℕ → ℕ → Refusal
 named n p = getD (refusals p) (n - 1) BadSpace
 
-named-number : (w : Refusal) → named (number w) (place w) ≡ w
-named-number BadSpace = refl
-named-number BadTableLength = refl
-named-number ShortOperations = refl
-named-number BadCount = refl
-named-number (BadMapping p) = refl
-named-number Unaligned = refl
-named-number OutsideSpace = refl
-named-number Reserved = refl
-named-number BadObject = refl
-named-number BadOffset = refl
-named-number NoRoom = refl
-named-number BadRecordLength = refl
-named-number BadOp = refl
-named-number BadFlags = refl
+named-numbered : (w : Refusal) → named (numbered w .0) (numbered w .1) ≡ w
+named-numbered BadSpace = refl
+named-numbered BadTableLength = refl
+named-numbered ShortOperations = refl
+named-numbered BadCount = refl
+named-numbered (BadMapping p) = refl
+named-numbered Unaligned = refl
+named-numbered OutsideSpace = refl
+named-numbered Reserved = refl
+named-numbered BadObject = refl
+named-numbered BadOffset = refl
+named-numbered NoRoom = refl
+named-numbered BadRecordLength = refl
+named-numbered BadOp = refl
+named-numbered BadFlags = refl
 
--- what a reading gives back
-abbrev verdictOf : Reply (Unit {0}) → Verdict
-verdictOf (refused n p) = VerdictRefuse (named n p)
-verdictOf (answered u) = Pass
+-- an enum with two kinds of case: its reading, read back
+abbrev back : {A B : Type 0} → (A → B) → (Refusal → B) → Reply A → B
+back answer refuse (refused n p) = refuse (named n p)
+back answer refuse (answered a) = answer a
 
-abbrev decodedOf : Reply Request → Decoded
-decodedOf (refused n p) = Refuse (named n p)
-decodedOf (answered r) = Record r
-
-verdict-back : (u : Verdict) → verdictOf (verdictReply u) ≡ u
+verdict-back : (u : Verdict) → back (λ _. Pass) VerdictRefuse (verdictReply u) ≡ u
 verdict-back Pass = refl
-verdict-back (VerdictRefuse w) = ap VerdictRefuse (named-number w)
+verdict-back (VerdictRefuse w) = ap VerdictRefuse (named-numbered w)
 
-decoded-back : (d : Decoded) → decodedOf (decodedReply d) ≡ d
+decoded-back : (d : Decoded) → back Record Refuse (decodedReply d) ≡ d
 decoded-back (Record r) = refl
-decoded-back (Refuse w) = ap Refuse (named-number w)
+decoded-back (Refuse w) = ap Refuse (named-numbered w)
 
-back-pins : {A B : Type 0} (read : A → B) (back : B → A) → ((a : A) → back (read a) ≡ a) → (a b : A) → read a ≡ read b → a ≡ b
+answer-back : (a : Answer) → back Granted Refused (answerReply a) ≡ a
+answer-back (Granted g) = refl
+answer-back (Refused w) = ap Refused (named-numbered w)
+
+found-back : (f : Found) → back Shows FoundRefused (foundReply f) ≡ f
+found-back (Shows x) = refl
+found-back (FoundRefused w) = ap FoundRefused (named-numbered w)
+
+back-pins : {A B : Type 0} (read : A → B) (back : B → A) → ((a : A) → back (read a) ≡ a) → Pins read
 back-pins read back same a b e = sym (same a) ∙ ap back e ∙ same b
 
 pub pinned : Pinned
-pinned = (back-pins verdictReply verdictOf verdict-back, back-pins decodedReply decodedOf decoded-back)
+pinned = (
+  back-pins verdictReply (back (λ _. Pass) VerdictRefuse) verdict-back,
+  back-pins decodedReply (back Record Refuse) decoded-back,
+  back-pins answerReply (back Granted Refused) answer-back,
+  back-pins foundReply (back Shows FoundRefused) found-back,
+)

@@ -1,16 +1,93 @@
--- Each boundary's answer: one test, computed over the whole listing.
+-- The edges of the rules, computed: the request check's answer to each, one listing; the longest table. Exactly covers them all; these show the numbers.
 -- Assumes nothing.
+use mathlib.Core.Path.{_≡_, refl}
 use mathlib.Core.Bool.{Bool, true, _&&_}
-use mathlib.Core.List.{List, [], _∷_}
+use mathlib.Core.List.{List, [], _∷_, _++_}
+use Prim.Native.Nat.{ℕ, _-_, _^_}
 use lib.Dec.{T, eqb, eqb→eq}
-use Rattle.model.specs.Rows.{decide}
-use Rattle.model.specs.Rules.{formRows, requestRows}
-use Rattle.model.specs.Record.{littleEndian, requestOf, recordRows, bytesOf, recordOf}
-use Rattle.model.specs.Check.{checkRows, checkRequest}
-use Rattle.model.specs.Claims.{Each}
-use Rattle.model.specs.Boundaries.{Boundary, Right, boundaries, Boundaries}
+use lib.ListN.{replicate}
+use Rattle.model.specs.Prelude.{Space, Nothing}
+use Rattle.model.specs.Rows.{refused, answered, decide}
+use Rattle.model.specs.Rules.{byNumbers, formRows, requestRows}
+use Rattle.model.specs.Calls.{spaceOf, checkRows, checkRequest, littleEndian, requestOf, recordRows, bytesOf, recordOf, lookup}
+use Rattle.model.specs.Table.{Table, mappingsIn, badPlace, lookupRows}
+use Rattle.model.specs.Cut.{translate}
+use Rattle.model.specs.Exactly.{Each}
 use Rattle.model.proofs.Tests.{and-both}
 
+record Boundary : Type 0 where
+  bytes : List ℕ
+  space : Space
+  answer : ℕ
+
+abbrev case : List ℕ → Space → ℕ → Boundary
+case bs s n = record { bytes = bs; space = s; answer = n }
+
+abbrev Right : Boundary → Type 0
+Right b = checkRequest (b .bytes) (b .space) ≡ b .answer
+
+-- address, size, object, offset
+abbrev map : ℕ → ℕ → ℕ → ℕ → List ℕ
+map a n o f = recordOf (byNumbers 0 a n o f)
+
+abbrev unmap : ℕ → ℕ → ℕ → ℕ → List ℕ
+unmap a n o f = recordOf (byNumbers 1 a n o f)
+
+-- a map of a page, in good order but for op, flags and pad
+abbrev form : ℕ → ℕ → ℕ → List ℕ
+form op flags pad =
+    recordOf (record { op = op; flags = flags; object = 7; pad = pad; address = 0; offset = 0; size = 4096 })
+
+-- 16 pages from 0 on: nothing reserved; pages 4 and 5 reserved
+abbrev plain : Space
+plain = spaceOf 0 65536 0 0
+
+abbrev reserved : Space
+reserved = spaceOf 0 65536 16384 8192
+
+unfoldable boundaries : List Boundary
+boundaries =
+    -- the record: document 01's first request, byte by byte; the lowest byte first; its length
+    case (0 ∷ 0 ∷ 0 ∷ 0 ∷ (replicate 4 0 ++ (7 ∷ 0 ∷ 0 ∷ 0 ∷ (replicate 21 0 ++ (48 ∷ replicate 6 0))))) plain 0
+    ∷ case (1 ∷ 0 ∷ 0 ∷ 0 ∷ (replicate 29 0 ++ (48 ∷ replicate 6 0))) plain 0
+    ∷ case (0 ∷ 0 ∷ 0 ∷ 1 ∷ (replicate 29 0 ++ (48 ∷ replicate 6 0))) plain 13
+    ∷ case [] plain 12
+    ∷ case (form 2 1 0 ++ (0 ∷ [])) plain 12
+    ∷ case (form 2 1 0) plain 13
+    ∷ case (form 0 1 0) plain 14
+    ∷ case (form 0 0 1) (spaceOf 1 0 0 0) 14
+    -- a space: its end, its size, its reservation
+    ∷ case (form 0 0 0) (spaceOf 0 (2 ^ 48) 0 0) 0
+    ∷ case (form 0 0 0) (spaceOf 4096 (2 ^ 48) 0 0) 1
+    ∷ case (form 0 0 0) (spaceOf (2 ^ 64 - 4096) 8192 0 0) 1
+    ∷ case (form 0 0 0) (spaceOf 0 0 0 0) 1
+    ∷ case (form 0 0 0) (spaceOf 0 65536 4096 0) 1
+    ∷ case (form 0 0 0) (spaceOf 0 65536 61440 4096) 0
+    ∷ case (form 0 0 0) (spaceOf 0 65536 61440 8192) 1
+    -- 6: offset 1; size 0, outside too
+    ∷ case (unmap 0 4096 0 1) plain 6
+    ∷ case (map 69632 0 7 0) plain 6
+    -- 7: the last page; one beyond it; a sum that passes 64 bits
+    ∷ case (map 61440 4096 9 0) plain 0
+    ∷ case (map 61440 8192 9 0) plain 7
+    ∷ case (map (2 ^ 64 - 4096) 8192 9 0) plain 7
+    -- 8: touching below and above; sharing a page
+    ∷ case (map 0 16384 9 0) reserved 0
+    ∷ case (map 24576 4096 9 0) reserved 0
+    ∷ case (map 0 20480 9 0) reserved 8
+    ∷ case (unmap 20480 8192 0 0) reserved 8
+    -- 9: the last object; none; an unmap's offset and object
+    ∷ case (map 0 4096 4294967295 0) plain 0
+    ∷ case (map 0 4096 0 0) plain 9
+    ∷ case (unmap 0 4096 0 4096) plain 9
+    ∷ case (unmap 0 4096 7 0) plain 9
+    -- 10: the end at 2^48; above it; a sum that passes 64 bits
+    ∷ case (map 0 4096 7 (2 ^ 48 - 4096)) plain 0
+    ∷ case (map 0 4096 7 (2 ^ 48)) plain 10
+    ∷ case (map 0 8192 7 (2 ^ 64 - 4096)) plain 10
+    ∷ []
+
+-- one test over the whole listing
 right : Boundary → Bool
 right b = eqb (checkRequest (b .bytes) (b .space)) (b .answer)
 
@@ -23,6 +100,19 @@ unfolding allRight right
 each-right [] t = tt
 each-right (b ∷ bs) t = let h = and-both (right b) (allRight bs) t in (eqb→eq _ _ (h .0), each-right bs (h .1))
 
-pub all-right : Boundaries
+boundaries-right : Each Right boundaries
 unfolding allRight right decide formRows requestRows littleEndian requestOf recordRows bytesOf recordOf checkRows checkRequest boundaries
-all-right = each-right boundaries tt
+boundaries-right = each-right boundaries tt
+
+-- ── the longest table, and one mapping more ──
+
+abbrev zeros : ℕ → Table
+zeros n = record { words = replicate n 0; count = 0 }
+
+longest : lookup plain (zeros 2048) 0 ≡ answered Nothing
+unfolding lookup lookupRows decide badPlace mappingsIn translate
+longest = refl
+
+too-long : lookup plain (zeros 2052) 0 ≡ refused 2 0
+unfolding lookup lookupRows decide
+too-long = refl

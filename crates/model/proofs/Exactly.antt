@@ -1,31 +1,96 @@
--- The request check's answer is n exactly if line n of document 01's table applies and no line above it.
+-- Each public call gives a line's answer exactly if the line's rule is broken and no line's above it.
 -- Assumes nothing.
-use mathlib.Core.Path.{refl, subst}
-use mathlib.Core.List.{List}
-use Prim.Native.Nat.{ℕ}
+use mathlib.Core.Path.{_≡_, refl, sym, ap, subst, _∙_}
+use mathlib.Core.Logic.{_↔_, inl, inr}
+use mathlib.Core.List.{List, [], _∷_, _++_, flatMap, List·Memᴰ·head, List·Memᴰ·tail}
+use Prim.Native.Nat.{ℕ, _+_, _≤_, _<_}
+use lib.ListN.{length}
+use Rattle.model.specs.Prelude.{Space, Request, Shown, Grant}
+use Rattle.model.specs.Rows.{Row, Reply, refused, answered, decide, numberOf}
 use Rattle.model.specs.Rules.{formRows, requestRows}
-use Rattle.model.specs.Record.{requestOf, recordRows}
-use Rattle.model.specs.Answers.{numberOf}
-use Rattle.model.specs.Check.{checkRows, checkRequest}
-use Rattle.model.specs.Claims.{Gives, checkTable, Exactly}
-use Rattle.model.proofs.Tests.{tests}
-use Rattle.model.proofs.Rows.{Match, match-gives, gives-one}
+use Rattle.model.specs.Table.{Table, capacity, mappings, tableRows, lookupRows}
+use Rattle.model.specs.Cut.{new, operations, old, rests, translate}
+use Rattle.model.specs.Calls.{Asking, numbers, bytes, asked, recordRow, roomRow, bindRows, grantOf, outcomeFor, bind, lookup, checkRows, checkRequest, requestOf, recordRows}
+use Rattle.model.specs.Exactly.{_∈_, RefusalTable, otherwise, Gives, formLines, requestLines, checkRefusals, refusal, WellFormed, bindRefusals, lookupRefusals, TableRules, Exactly}
+use Rattle.model.proofs.Tests.{tests, Says}
+use Rattle.model.proofs.Rows.{Match, match-gives, gives-one, not-both}
 use Rattle.model.proofs.Rules.{apart-shares, shares-apart, space-says, object-says, offset-says}
-use Rattle.model.specs.declared.Space.{Space}
+use Rattle.model.proofs.Operations.{count-rule}
+use Rattle.model.proofs.Table.{table-says, rules-run, lowest}
+use Rattle.model.proofs.Store.{length-mappings}
 
-check-match : (bs : List ℕ) (s : Space) → Match numberOf (tt {0}) (checkRows bs s) (checkTable bs s (requestOf bs))
-unfolding checkRows recordRows formRows requestRows
-check-match bs s =
-    let r = requestOf bs in (
-      refl,
+-- ── rows and lines, f being how an answer is read ──
+
+module _ {A B : Type 0} (f : Reply A → B) (a : A) (refuse : ℕ → B) (reads : (n : ℕ) → f (refused n 0) ≡ refuse n) where
+  form-match : (r : Request) (ws : List Row) (t : RefusalTable B) → (r .op < 2 → Match f a ws t) → Match f a (formRows r ++ ws) (formLines refuse r t)
+  unfolding formRows
+  form-match r ws t rest = (
+    reads 13,
+    (λ h. omega tests, λ h. omega tests),
+    λ op. (reads 14, (λ h. omega tests, λ h. omega tests), λ _. rest op),
+  )
+
+  request-match : (s : Space) (r : Request) (ws : List Row) (t : RefusalTable B) → r .op < 2 → (0 < r .size → Match f a ws t)
+      → Match f a (requestRows s r ++ ws) (requestLines refuse s r t)
+  unfolding requestRows
+  request-match s r ws t op rest = (
+    reads 6,
+    (λ h. omega tests, λ h. omega tests),
+    λ six. (
+      reads 7,
       (λ h. omega tests, λ h. omega tests),
       λ _. (
-        refl,
-        (λ h. omega tests, λ h. omega tests),
-        λ op. (
-          refl,
-          (λ h. omega tests, λ h. omega tests),
-          λ _. (
+        reads 8,
+        (λ h. apart-shares _ _ _ _ (omega tests), λ h. let k = shares-apart _ _ _ _ h in omega tests),
+        λ _. (reads 9, object-says r op, λ _. (reads 10, offset-says r, λ _. rest (six .3))),
+      ),
+    ),
+  )
+
+-- an answer is b exactly if the table gives b
+abbrev Answers : {B : Type 0} → B → RefusalTable B → Type 0
+Answers {B} answer t = (b : B) → (answer ≡ b) ↔ Gives t b
+
+match-answers : {A B : Type 0} (f : Reply A → B) (a : A) (ws : List Row) (t : RefusalTable B) → Match f a ws t → Answers (f (decide ws a)) t
+match-answers f a ws t m b =
+    let g : Gives t (f (decide ws a)) = match-gives f a ws t m in
+    (λ e. subst (Gives t) e g, λ h. gives-one t g h)
+
+-- ── the request check ──
+
+of-check : (bs : List ℕ) (s : Space) → Answers (checkRequest bs s) (checkRefusals bs s)
+unfolding checkRequest checkRows recordRows requestRows
+of-check bs s = match-answers numberOf (tt {0}) (checkRows bs s) (checkRefusals bs s) (
+  refl,
+  (λ h. omega tests, λ h. omega tests),
+  λ _. form-match numberOf (tt {0}) (λ n. n) (λ n. refl) (requestOf bs) _ _
+      (λ op. (refl, space-says s, λ _. request-match numberOf (tt {0}) (λ n. n) (λ n. refl) s (requestOf bs) [] (otherwise 0) op (λ _. refl))),
+)
+
+-- ── map and unmap ──
+
+pub record-says : (q : Asking) → Says (recordRow q .tests) (WellFormed q)
+record-says (numbers op address size object offset) = (λ h. tt, λ h. tt)
+record-says (bytes bs) = (λ h. omega tests, λ h. omega tests)
+
+-- document 01's count afterwards is the count of the table after
+room-says : (s : Space) (t : Table) (r : Request) → TableRules s (mappings t) → 0 < r .size
+    → Says (roomRow t r .tests)
+    (t .count + length (flatMap rests (operations r (mappings t))) + length (new r) ≤ capacity t + length (flatMap old (operations r (mappings t))))
+room-says s t r h z =
+    let e = count-rule r (mappings t) (rules-run s (mappings t) h) z in
+    let n = length-mappings (t .count) (t .words) in
+    (λ k. omega (tests, k, e, n), λ k. omega (tests, k, e, n))
+
+of-rows : (s : Space) (t : Table) (n : ℕ) (q : Asking) → Answers (decide (bindRows s t n q) (grantOf (asked q) (mappings t))) (bindRefusals s t n q)
+unfolding bindRows tableRows
+of-rows s t n q =
+    let g : Grant = grantOf (asked q) (mappings t) in
+    match-answers (λ a. a) g (bindRows s t n q) (bindRefusals s t n q) (
+      record-number q,
+      record-says q,
+      λ _. form-match (λ a. a) g refusal (λ n. refl) (asked q) _ _ (
+          λ op. (
             refl,
             space-says s,
             λ _. (
@@ -36,23 +101,80 @@ check-match bs s =
                 (λ h. omega tests, λ h. omega tests),
                 λ _. (
                   refl,
-                  (λ h. apart-shares _ _ _ _ (omega tests), λ h. let k = shares-apart _ _ _ _ h in omega tests),
+                  (λ h. omega tests, λ h. omega tests),
                   λ _. (
                     refl,
-                    object-says r op,
-                    λ _. (refl, offset-says r, λ _. refl),
+                    table-says s (mappings t),
+                    λ five. request-match (λ a. a) g refusal (λ n. refl) s (asked q) (roomRow t (asked q) ∷ []) _ op
+                        (λ six. (refl, room-says s t (asked q) five six, λ _. refl)),
                   ),
                 ),
               ),
             ),
+          )
           ),
-        ),
-      ),
     )
+  where
+    record-number : (q : Asking) → _≡_ {A = Reply Grant} (refused (recordRow q .number) (recordRow q .place)) (refusal 12)
+    record-number (numbers op address size object offset) = refl
+    record-number (bytes bs) = refl
+
+-- the answer is what the rows decide
+pub answer-is : (a : Reply Grant) (r : Request) (t : Table) (os : List ℕ) → outcomeFor a r t os .answer ≡ a
+answer-is (refused n p) r t os = refl
+answer-is (answered g) r t os = refl
+
+of-bind : (s : Space) (t : Table) (os : List ℕ) (q : Asking) → Answers (bind s t os q .answer) (bindRefusals s t (length os) q)
+unfolding bind
+of-bind s t os q a =
+    let d : Reply Grant = decide (bindRows s t (length os) q) (grantOf (asked q) (mappings t)) in
+    let e = answer-is d (asked q) t os in
+    let k = of-rows s t (length os) q a in
+    (λ h. k .0 (sym e ∙ h), λ h. e ∙ k .1 h)
+
+unchanged : (s : Space) (t : Table) (os : List ℕ) (q : Asking) (n p : ℕ) → bind s t os q .answer ≡ refused n p
+    → (bind s t os q .table ≡ t .words) × (bind s t os q .operations ≡ os)
+unfolding bind
+unchanged s t os q n p e = go (decide (bindRows s t (length os) q) (grantOf (asked q) (mappings t))) e
+  where
+    go : (a : Reply Grant) → outcomeFor a (asked q) t os .answer ≡ refused n p
+        → (outcomeFor a (asked q) t os .table ≡ t .words) × (outcomeFor a (asked q) t os .operations ≡ os)
+    go (refused n p) e = (refl, refl)
+    go (answered g) e = absurd (not-both (sym e))
+
+-- ── look-up ──
+
+of-lookup : (s : Space) (t : Table) (x : ℕ) → Answers (lookup s t x) (lookupRefusals s t x)
+unfolding lookup lookupRows
+of-lookup s t x = match-answers (λ a. a) (translate (mappings t) x) (lookupRows s t) (lookupRefusals s t x) (
+  refl,
+  space-says s,
+  λ _. (
+    refl,
+    (λ h. omega tests, λ h. omega tests),
+    λ _. (refl, (λ h. omega tests, λ h. omega tests), λ _. (refl, table-says s (mappings t), λ _. refl)),
+  ),
+)
+
+lookup-only : (s : Space) (t : Table) (x n p : ℕ) → lookup s t x ≡ refused n p → n ∈ (1 ∷ 2 ∷ 4 ∷ 5 ∷ [])
+lookup-only s t x n p e = go (of-lookup s t x (refused n p) .0 e)
+  where
+    number : {a b c d : ℕ} → _≡_ {A = Reply Shown} (refused a b) (refused c d) → a ≡ c
+    number e = ap numberOf e
+
+    go : Gives (lookupRefusals s t x) (refused n p) → n ∈ (1 ∷ 2 ∷ 4 ∷ 5 ∷ [])
+    go (inl h) = List·Memᴰ·head (number (h .1))
+    go (inr (_, inl h)) = List·Memᴰ·tail (List·Memᴰ·head (number (h .1)))
+    go (inr (_, inr (_, inl h))) = List·Memᴰ·tail (List·Memᴰ·tail (List·Memᴰ·head (number (h .1))))
+    go (inr (_, inr (_, inr (_, inl h)))) = List·Memᴰ·tail (List·Memᴰ·tail (List·Memᴰ·tail (List·Memᴰ·head (number (h .1)))))
+    go (inr (_, inr (_, inr (_, inr h)))) = absurd (not-both (h .1))
 
 pub exactly : Exactly
-unfolding checkRequest
-exactly bs s n =
-    let t = checkTable bs s (requestOf bs) in
-    let g : Gives t (checkRequest bs s) = match-gives numberOf (tt {0}) (checkRows bs s) t (check-match bs s) in
-    (λ e. subst (Gives t) e g, λ h. gives-one t g h)
+exactly = record {
+  of-check = of-check;
+  of-bind = of-bind;
+  of-lookup = of-lookup;
+  lowest = lowest;
+  unchanged = unchanged;
+  lookup-only = lookup-only;
+}

@@ -1,13 +1,13 @@
 -- Laws of a list of rows, and of a table in words.
 -- Assumes nothing.
-use mathlib.Core.Path.{_≡_, refl, sym, subst, _∙_}
-use mathlib.Core.Logic.{inl, inr}
+use mathlib.Core.Path.{_≡_, refl, sym, ap, subst, _∙_}
+use mathlib.Core.Logic.{_⊎_, inl, inr}
+use Prim.Native.Nat.{ℕ}
 use mathlib.Core.Bool.{Bool, true, false}
 use mathlib.Core.List.{List, [], _∷_, _++_, append-nil}
-use lib.Dec.{T}
 use Rattle.model.specs.Rows.{all, Row, Reply, refused, answered, choose, decide, verdict}
-use Rattle.model.specs.Claims.{RefusalTable, line, otherwise, Gives}
-use Rattle.model.proofs.Tests.{Says, all-facts, all-true}
+use Rattle.model.specs.Exactly.{RefusalTable, line, otherwise, Gives}
+use Rattle.model.proofs.Tests.{Alls, Says, all-facts, all-true, not-facts}
 
 -- rows in front of others: their refusal, else what the others say
 abbrev pub andThen : {A : Type 0} → Reply (Unit {0}) → Reply A → Reply A
@@ -30,6 +30,73 @@ pub decide-verdict : {A : Type 0} (ws : List Row) (a : A) → decide ws a ≡ an
 unfolding decide
 decide-verdict ws a = rw append-nil at (decide-append ws [] a)
 
+-- ── rows that pass ──
+
+abbrev pub Passed : List Row → Type 0
+Passed [] = Unit {0}
+Passed (w ∷ ws) = Alls (w .tests) × Passed ws
+
+pub passed-split : (ws vs : List Row) → Passed (ws ++ vs) → Passed ws × Passed vs
+passed-split [] vs h = (tt, h)
+passed-split (w ∷ ws) vs h = let k = passed-split ws vs (h .1) in ((h .0, k .0), k .1)
+
+pub passed-join : (ws vs : List Row) → Passed ws → Passed vs → Passed (ws ++ vs)
+passed-join [] vs h k = k
+passed-join (w ∷ ws) vs h k = (h .0, passed-join ws vs (h .1) k)
+
+module _ {A : Type 0} where
+  abbrev IsRefusal : Reply A → Type 0
+  IsRefusal (refused n p) = Unit {0}
+  IsRefusal (answered a) = ⊥
+
+  pub not-both : {n p : ℕ} {a : A} → refused n p ≡ answered a → ⊥
+  not-both e = subst IsRefusal e tt
+
+  -- past rows that pass, the others decide
+  pub past : (ws vs : List Row) (a : A) → Passed ws → decide (ws ++ vs) a ≡ decide vs a
+  unfolding decide
+  past [] vs a h = refl
+  past (w ∷ ws) vs a h =
+      ap (λ (b : Bool). choose b (decide (ws ++ vs) a) (refused (w .number) (w .place))) (all-true (w .tests) (h .0)) ∙ past ws vs a (h .1)
+
+  -- an answer passed every row
+  pub answered-passed : (ws : List Row) (a b : A) → decide ws a ≡ answered b → Passed ws × (b ≡ a)
+  unfolding decide
+  answered-passed [] a b e = (tt, sym (answered-same e))
+    where
+      value : Reply A → A
+      value (refused n p) = a
+      value (answered c) = c
+
+      answered-same : answered a ≡ answered b → a ≡ b
+      answered-same e = ap value e
+  answered-passed (w ∷ ws) a b e = go (all (w .tests)) refl (answered-passed ws a b) e
+    where
+      go : (t : Bool) → all (w .tests) ≡ t → (decide ws a ≡ answered b → Passed ws × (b ≡ a))
+          → choose t (decide ws a) (refused (w .number) (w .place)) ≡ answered b → (Alls (w .tests) × Passed ws) × (b ≡ a)
+      go true q ih e = let k = ih e in ((all-facts (w .tests) q, k .0), k .1)
+      go false q ih e = absurd (not-both e)
+
+  -- rows pass, or refuse
+  pub passed-or-refused : (ws : List Row) (a : A) → (Passed ws × (decide ws a ≡ answered a)) ⊎ ((n : ℕ) × (p : ℕ) × (decide ws a ≡ refused n p))
+  passed-or-refused ws a = go (decide ws a) refl
+    where
+      go : (u : Reply A) → decide ws a ≡ u → (Passed ws × (decide ws a ≡ answered a)) ⊎ ((n : ℕ) × (p : ℕ) × (decide ws a ≡ refused n p))
+      go (refused n p) e = inr (n, p, e)
+      go (answered b) e = let k = answered-passed ws a b e in inl (k .0, e ∙ ap answered (k .1))
+
+  -- where only the last row is open, it decides
+  abbrev Decides : Row → A → Reply A → Type 0
+  Decides w a u = (Alls (w .tests) × (u ≡ answered a)) ⊎ ((Alls (w .tests) → ⊥) × (u ≡ refused (w .number) (w .place)))
+
+  pub last-row : (ws : List Row) (w : Row) (a : A) → Passed ws → Decides w a (decide (ws ++ w ∷ []) a)
+  unfolding decide
+  last-row ws w a h = go (all (w .tests)) refl (past ws (w ∷ []) a h)
+    where
+      go : (b : Bool) → all (w .tests) ≡ b → {u : Reply A} → u ≡ choose b (answered a) (refused (w .number) (w .place)) → Decides w a u
+      go true q e = inl (all-facts (w .tests) q, e)
+      go false q e = inr (not-facts (w .tests) q, e)
+
 -- ── rows as a table in words, f being how an answer is read ──
 
 module _ {A B : Type 0} (f : Reply A → B) (a : A) where
@@ -50,7 +117,7 @@ module _ {A B : Type 0} (f : Reply A → B) (a : A) where
       go : (b : Bool) → all (w .tests) ≡ b → (Rule → Gives t (f (decide ws a)))
           → Gives (line n Rule t) (f (choose b (decide ws a) (refused (w .number) (w .place))))
       go true e rest = let rule : Rule = m .1 .0 (all-facts (w .tests) e) in inr (rule, rest rule)
-      go false e rest = inl (λ rule. subst T (sym (all-true (w .tests) (m .1 .1 rule)) ∙ e) tt, m .0)
+      go false e rest = inl (λ rule. not-facts (w .tests) e (m .1 .1 rule), m .0)
 
 -- a table gives one answer
 pub gives-one : {A : Type 0} (t : RefusalTable A) {a b : A} → Gives t a → Gives t b → a ≡ b

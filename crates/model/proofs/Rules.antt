@@ -2,16 +2,14 @@
 -- Assumes nothing.
 use mathlib.Core.Path.{_≡_, refl}
 use mathlib.Core.Bool.{Bool, true, false}
-use Prim.Native.Nat.{ℕ, zero, suc, _≤_, _<_, min, max}
+use Prim.Native.Nat.{ℕ, zero, suc, _+_, _^_, _≤_, _<_, min, max}
 use native.Mathlib.Omega.{arith}
 use lib.Dec.{leb}
 use borrow.Author.Tests.{leb-true, leb-false}
+use Rattle.model.specs.Prelude.{Space, Mapping, Request}
 use Rattle.model.specs.Rules.{reservedTests, spaceTests, mappingTests, objectTests, offsetTests}
-use Rattle.model.specs.Claims.{ShareByte, Reservation, SpaceRules, MappingRules, MappingExactly, ObjectRules, OffsetRules}
-use Rattle.model.proofs.Tests.{tests, Says, all-facts, all-true}
-use Rattle.model.specs.declared.Space.{Space}
-use Rattle.model.specs.declared.Mapping.{Mapping}
-use Rattle.model.specs.declared.Request.{Request}
+use Rattle.model.specs.Exactly.{ShareByte, Inside, SpaceRules, MappingRules}
+use Rattle.model.proofs.Tests.{tests, Says}
 
 -- ── ranges that share no byte ──
 
@@ -29,50 +27,42 @@ shares-apart a b c d h = go (leb (min b d) (max a c)) refl
 
 -- ── a space ──
 
-none-says : (s : Space) → s .reserved .size ≡ 0 → Says (reservedTests 0 s) (Reservation s)
-none-says s e = (
-  λ h. record { none = λ _. omega tests; inside = λ h. absurd (omega arith) },
-  λ r. (omega (tests, r .none e), tt),
-)
-
-some-says : (s : Space) (n : ℕ) → s .reserved .size ≡ suc n → Says (reservedTests (suc n) s) (Reservation s)
-some-says s n e = (
-  λ h. record { none = λ z. absurd (omega arith); inside = λ _. (omega tests, omega tests) },
-  λ r. omega (tests, r .inside (omega arith)),
-)
+abbrev Reservation : Space → Type 0
+Reservation s =
+    (s .reserved .size ≡ 0 → s .reserved .start ≡ 0)
+    × (0 < s .reserved .size → Inside (s .reserved .start) (s .reserved .start + s .reserved .size) (s .start) (s .start + s .size))
 
 reserved-says : (s : Space) → Says (reservedTests (s .reserved .size) s) (Reservation s)
 reserved-says s = go (s .reserved .size) refl
   where
     go : (n : ℕ) → s .reserved .size ≡ n → Says (reservedTests n s) (Reservation s)
-    go zero e = none-says s e
-    go (suc n) e = some-says s n e
+    go zero e = (λ h. (λ _. omega tests, λ h. absurd (omega arith)), λ r. (omega (tests, r .0 e), tt))
+    go (suc n) e = (λ h. (λ z. absurd (omega arith), λ _. (omega tests, omega tests)), λ r. omega (tests, r .1 (omega arith)))
 
 pub space-says : (s : Space) → Says (spaceTests s) (SpaceRules s)
 space-says s = (
-  λ h. record {
-    start-multiple = omega tests;
-    size-multiple = omega tests;
-    reserved-start-multiple = omega tests;
-    reserved-size-multiple = omega tests;
-    size-least = omega tests;
-    end-most = omega tests;
-    reservation = reserved-says s .0 (h .1 .1 .1 .1 .1 .1);
-  },
-  λ r. (omega tests, (omega tests, (omega tests, (omega tests, (omega tests, (omega tests, reserved-says s .1 (r .reservation))))))),
+  λ h.
+      let r = reserved-says s .0 (h .1 .1 .1 .1 .1 .1) in
+      record {
+        multiples = (omega tests, omega tests, omega tests, omega tests);
+        size-least = omega tests;
+        end-most = omega tests;
+        no-reservation = r .0;
+        reservation = r .1;
+      },
+  λ r.
+      let t = reserved-says s .1 (r .no-reservation, r .reservation) in
+      (omega tests, (omega tests, (omega tests, (omega tests, (omega tests, (omega tests, t)))))),
 )
 
 -- ── a mapping ──
 
-mapping-says : (s : Space) (m : Mapping) → Says (mappingTests s m) (MappingRules s m)
+pub mapping-says : (s : Space) (m : Mapping) → Says (mappingTests s m) (MappingRules s m)
 mapping-says s m = (
   λ h. record {
-    address-multiple = omega tests;
-    size-multiple = omega tests;
-    offset-multiple = omega tests;
+    multiples = (omega tests, omega tests, omega tests);
     size-least = omega tests;
-    object-least = omega tests;
-    object-most = omega tests;
+    object-range = (omega tests, omega tests);
     offset-end-most = omega tests;
     within = (omega tests, omega tests);
     unreserved = apart-shares _ _ _ _ (omega tests);
@@ -80,13 +70,10 @@ mapping-says s m = (
   λ r. let k = shares-apart _ _ _ _ (r .unreserved) in omega tests,
 )
 
-pub mapping-exactly : MappingExactly
-mapping-exactly s m = (
-  λ e. mapping-says s m .0 (all-facts (mappingTests s m) e),
-  λ r. all-true (mappingTests s m) (mapping-says s m .1 r),
-)
-
 -- ── a request ──
+
+abbrev ObjectRules : Request → Type 0
+ObjectRules r = (r .op ≡ 0 → (1 ≤ r .object) × (r .object < 2 ^ 32)) × (r .op ≡ 1 → (r .object ≡ 0) × (r .offset ≡ 0))
 
 pub object-says : (r : Request) → r .op < 2 → Says (objectTests (r .op) r) (ObjectRules r)
 object-says r = go (r .op) refl
@@ -95,9 +82,9 @@ object-says r = go (r .op) refl
     go zero e h = (λ t. (λ _. (omega tests, omega tests), λ o. absurd (omega arith)), λ k. omega (tests, k .0 e))
     go (suc n) e h = (λ t. (λ o. absurd (omega arith), λ _. (omega tests, omega tests)), λ k. omega (tests, k .1 (omega arith)))
 
-pub offset-says : (r : Request) → Says (offsetTests (r .op) r) (OffsetRules r)
+pub offset-says : (r : Request) → Says (offsetTests (r .op) r) (r .op ≡ 0 → r .offset + r .size ≤ 2 ^ 48)
 offset-says r = go (r .op) refl
   where
-    go : (n : ℕ) → r .op ≡ n → Says (offsetTests n r) (OffsetRules r)
+    go : (n : ℕ) → r .op ≡ n → Says (offsetTests n r) (r .op ≡ 0 → r .offset + r .size ≤ 2 ^ 48)
     go zero e = (λ t _. omega tests, λ k. omega (tests, k e))
     go (suc n) e = (λ t o. absurd (omega arith), λ k. tt)

@@ -1,6 +1,6 @@
 -- Lists of tests as facts, and back.
 -- Assumes nothing.
-use mathlib.Core.Path.{_≡_, refl, sym, subst}
+use mathlib.Core.Path.{_≡_, refl, sym, subst, _∙_}
 use mathlib.Core.Bool.{Bool, true, false, _&&_}
 use mathlib.Core.List.{List, [], _∷_}
 use Prim.Native.Nat.{ℕ}
@@ -61,6 +61,9 @@ all-true bs h = true-of (all bs) (alls-all bs h)
 
 pub all-false : (bs : List Bool) → (Alls bs → ⊥) → all bs ≡ false
 all-false bs n = false-of (all bs) (λ t. n (all-alls bs t))
+
+pub not-facts : (bs : List Bool) → all bs ≡ false → Alls bs → ⊥
+not-facts bs e h = subst T (sym (all-true bs h) ∙ e) tt
 
 -- the tests hold exactly if the rule is kept
 abbrev pub Says : List Bool → Type 0 → Type 0

@@ -1,7 +1,10 @@
+pub mod Prelude
 pub mod Rows
 pub mod Rules
-pub mod Record
-pub mod Answers
-pub mod Check
-pub mod Claims
-pub mod Boundaries
+pub mod Table
+pub mod Cut
+pub mod Calls
+pub mod Exactly
+pub mod Grants
+pub mod Demand3
+pub mod Drawings

@@ -1,17 +1,8 @@
--- The rules of a space, a mapping and a request as tests, and each line of document 01's refusal table as a named row.
--- Sums are exact, in ℕ. Ranges are half-open.
--- Assumes nothing.
-use mathlib.Core.List.{List, [], _∷_, _++_}
-use mathlib.Core.Bool.{Bool}
-use Prim.Native.Nat.{ℕ, zero, suc, _+_, _%_, _^_, min, max}
-use lib.Dec.{leb, ltb, eqb}
+-- The rules of a space, a mapping and a request as tests, and lines of document 01's refusal table as named rows. Sums are exact, in ℕ.
+use Rattle.model.specs.Prelude.{Bool, List, [], _∷_, _++_, ℕ, zero, suc, _+_, _-_, _%_, _^_, min, max, leb, ltb, eqb, Space, Mapping, Request}
 use Rattle.model.specs.Rows.{Row, row}
-use Rattle.model.specs.declared.Space.{Space}
-use Rattle.model.specs.declared.Mapping.{Mapping}
-use Rattle.model.specs.declared.Request.{Request}
 
--- ── document 01: Sizes ──
-
+-- document 01: Sizes
 abbrev pub page : ℕ
 page = 4096
 
@@ -20,29 +11,34 @@ abbrev pub limit : ℕ
 limit = 2 ^ 48
 
 abbrev pub lastObject : ℕ
-lastObject = 4294967295
+lastObject = 2 ^ 32 - 1
 
--- ── words of the rules ──
+-- a table has room for 1 to so many mappings
+abbrev pub mostMappings : ℕ
+mostMappings = 512
+
+-- where a mapping ends, and a request's range
+abbrev pub end : Mapping → ℕ
+end m = m .address + m .size
+
+abbrev pub stop : Request → ℕ
+stop r = r .address + r .size
 
 abbrev pub aligned : ℕ → Bool
 aligned x = eqb (x % page) 0
 
--- [a, b) lies inside [c, d)
+-- [a, b) lies inside [c, d); [a, b) and [c, d) share no byte
 abbrev pub inside : ℕ → ℕ → ℕ → ℕ → List Bool
 inside a b c d = leb c a ∷ leb b d ∷ []
 
--- [a, b) and [c, d) share no byte
 abbrev pub apart : ℕ → ℕ → ℕ → ℕ → Bool
 apart a b c d = leb (min b d) (max a c)
 
--- ── document 01: Space ──
-
+-- document 01: Space
 abbrev pub extentTests : Space → List Bool
 extentTests s =
     aligned (s .start) ∷ aligned (s .size) ∷ aligned (s .reserved .start) ∷ aligned (s .reserved .size)
-    ∷ leb page (s .size)
-    ∷ leb (s .start + s .size) limit
-    ∷ []
+    ∷ leb page (s .size) ∷ leb (s .start + s .size) limit ∷ []
 
 -- reserved size 0: no reservation, and then its start is 0; else it lies inside the space
 abbrev pub reservedTests : ℕ → Space → List Bool
@@ -52,33 +48,19 @@ reservedTests (suc n) s = inside (s .reserved .start) (s .reserved .start + s .r
 abbrev pub spaceTests : Space → List Bool
 spaceTests s = extentTests s ++ reservedTests (s .reserved .size) s
 
--- ── document 01: Mapping. That each ends at or before the next one's address is the table's rule, not the mapping's ──
-
+-- document 01: Mapping. That each ends at or before the next one's address is the table's rule
 abbrev pub mappingTests : Space → Mapping → List Bool
 mappingTests s m =
-    aligned (m .address) ∷ aligned (m .size) ∷ aligned (m .offset)
-    ∷ leb page (m .size)
-    ∷ leb 1 (m .object) ∷ leb (m .object) lastObject
-    ∷ leb (m .offset + m .size) limit
-    ∷ leb (s .start) (m .address) ∷ leb (m .address + m .size) (s .start + s .size)
-    ∷ apart (m .address) (m .address + m .size) (s .reserved .start) (s .reserved .start + s .reserved .size)
-    ∷ []
-
--- ── a request: op 0 maps, op 1 unmaps; 13 keeps any other op away from the tests that go by it ──
+    aligned (m .address) ∷ aligned (m .size) ∷ aligned (m .offset) ∷ leb page (m .size)
+    ∷ leb 1 (m .object) ∷ leb (m .object) lastObject ∷ leb (m .offset + m .size) limit
+    ∷ leb (s .start) (m .address) ∷ leb (end m) (s .start + s .size)
+    ∷ apart (m .address) (end m) (s .reserved .start) (s .reserved .start + s .reserved .size) ∷ []
 
 -- a request by numbers: flags and pad are 0
 abbrev pub byNumbers : ℕ → ℕ → ℕ → ℕ → ℕ → Request
-byNumbers op address size object offset = record {
-  op = op;
-  flags = 0;
-  object = object;
-  pad = 0;
-  address = address;
-  offset = offset;
-  size = size;
-}
+byNumbers op address size object offset = record { op = op; flags = 0; object = object; pad = 0; address = address; offset = offset; size = size }
 
--- a map's object is from 1 on; an unmap has no object and no offset
+-- op 0 maps, op 1 unmaps; 13 keeps any other away. A map's object is from 1 to the last; an unmap has no object and no offset
 abbrev pub objectTests : ℕ → Request → List Bool
 objectTests zero r = leb 1 (r .object) ∷ leb (r .object) lastObject ∷ []
 objectTests (suc n) r = eqb (r .object) 0 ∷ eqb (r .offset) 0 ∷ []
@@ -87,9 +69,7 @@ abbrev pub offsetTests : ℕ → Request → List Bool
 offsetTests zero r = leb (r .offset + r .size) limit ∷ []
 offsetTests (suc n) r = []
 
--- ── document 01: the refusal table, a row a line ──
-
--- op neither 0 nor 1
+-- document 01: the refusal table, a row a line. op neither 0 nor 1
 abbrev pub opRow : Request → Row
 opRow r = row 13 (leb (r .op) 1 ∷ [])
 
@@ -107,11 +87,11 @@ alignmentRow r = row 6 (aligned (r .address) ∷ aligned (r .size) ∷ aligned (
 
 -- range not inside the space
 abbrev pub insideRow : Space → Request → Row
-insideRow s r = row 7 (inside (r .address) (r .address + r .size) (s .start) (s .start + s .size))
+insideRow s r = row 7 (inside (r .address) (stop r) (s .start) (s .start + s .size))
 
 -- range shares a byte with the reservation
 abbrev pub reservationRow : Space → Request → Row
-reservationRow s r = row 8 (apart (r .address) (r .address + r .size) (s .reserved .start) (s .reserved .start + s .reserved .size) ∷ [])
+reservationRow s r = row 8 (apart (r .address) (stop r) (s .reserved .start) (s .reserved .start + s .reserved .size) ∷ [])
 
 -- map with object 0 or above the last; unmap with object or offset not 0
 abbrev pub objectRow : Request → Row
@@ -121,8 +101,7 @@ objectRow r = row 9 (objectTests (r .op) r)
 abbrev pub offsetRow : Request → Row
 offsetRow r = row 10 (offsetTests (r .op) r)
 
--- ── the rows of a request, in their order: its form, which comes before everything else; what it asks of a space ──
-
+-- the rows of a request, in their order: its form, which comes before everything else; what it asks of a space
 unfoldable pub formRows : Request → List Row
 formRows r = opRow r ∷ flagsRow r ∷ []
 

@@ -63,3 +63,41 @@ pub enum Decoded {
     Record(Request),
     Refuse(Refusal),
 }
+
+// What a remap leaves of the old mapping: a lower rest, an upper rest, or both.
+pub enum Rests {
+    Lower(Mapping),
+    Upper(Mapping),
+    Both(Mapping, Mapping),
+}
+
+// One operation for the driver. The bool is the keep mark; a remap and an unmap name the old mapping, a map the new one.
+pub enum Operation {
+    Map(Mapping),
+    Remap(bool, Mapping, Rests),
+    Unmap(bool, Mapping),
+}
+
+// What a byte address shows: nothing, or an object's byte at an offset.
+pub enum Shown {
+    Nothing,
+    Object(u64, u64),
+}
+
+// What a granted request answers: the number of operations and the new count.
+pub struct Grant {
+    pub operations: usize,
+    pub count: usize,
+}
+
+// The answer to a request.
+pub enum Answer {
+    Granted(Grant),
+    Refused(Refusal),
+}
+
+// The answer to a look-up.
+pub enum Found {
+    Shows(Shown),
+    Refused(Refusal),
+}

@@ -8,7 +8,7 @@ use native.Mathlib.Nat.{add-zero, zero-add, suc-add, pow-succ', mul-assoc, mul-s
 use lib.ListN.{getD, drop}
 use lib.Pow.{pow-add}
 use lib.Seq.{drop-drop, getD-drop}
-use Rattle.model.specs.Record.{littleEndian}
+use Rattle.model.specs.Calls.{littleEndian}
 use Rattle.record.specs.Number.{NumberAt}
 
 -- m bytes, and n more behind them

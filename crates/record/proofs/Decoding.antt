@@ -7,7 +7,7 @@ use lib.ListN.{length}
 use borrow.Author.Tests.{eq-eqb, ne-eqb}
 use Rattle.model.specs.Rows.{Reply, refused, answered, decide, verdict}
 use Rattle.model.specs.Rules.{formRows}
-use Rattle.model.specs.Record.{recordBytes, requestOf, recordRows, decode}
+use Rattle.model.specs.Calls.{recordBytes, requestOf, recordRows, decode}
 use Rattle.model.proofs.Rows.{andThen, decide-verdict}
 use Rattle.model.specs.declared.Request.{Request}
 

@@ -6,8 +6,7 @@ use model::Verdict;
 ghost use mathlib.Core.Path.{_≡_};
 ghost use Prim.Native.Nat.{_+_, _≤_};
 ghost use lib.ListN.{length};
-ghost use Rattle.model.specs.Record.{requestOf, decode};
-ghost use Rattle.model.specs.Answers.{decodedReply};
+ghost use Rattle.model.specs.Calls.{requestOf, decode, decodedReply};
 ghost use Rattle.record.specs.Number.{NumberAt};
 
 const RECORD_BYTES: usize = 40;

@@ -10,7 +10,7 @@ ghost use Prim.Native.Nat.{_+_, max};
 ghost use lib.Dec.{leb};
 ghost use Rattle.model.specs.Rows.{all, verdict};
 ghost use Rattle.model.specs.Rules.{aligned, apart, spaceTests, mappingTests, formRows, requestRows, alignmentRow, insideRow, objectRow, offsetRow};
-ghost use Rattle.model.specs.Answers.{number, verdictReply};
+ghost use Rattle.model.specs.Calls.{numbered, verdictReply};
 
 const PAGE: u64 = 4096;
 
@@ -166,7 +166,7 @@ pub fn request_verdict(s: Space, r: Request) -> Verdict
 
 // A refusal's number in document 01's table.
 pub fn refusal_number(w: Refusal) -> u32
-    ensures { λ n. ⌜ n ≡ number w ⌝ }
+    ensures { λ n. ⌜ n ≡ numbered w .0 ⌝ }
 {
     match w {
         Refusal::BadSpace => 1,

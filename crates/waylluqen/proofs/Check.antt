@@ -5,9 +5,7 @@ use mathlib.Core.List.{List, _∷_}
 use Prim.Native.Nat.{ℕ}
 use Rattle.model.specs.Rows.{Reply, refused, answered, verdict}
 use Rattle.model.specs.Rules.{spaceRow, requestRows}
-use Rattle.model.specs.Record.{recordRows, requestOf, decode}
-use Rattle.model.specs.Answers.{numberOf}
-use Rattle.model.specs.Check.{checkRows, checkRequest}
+use Rattle.model.specs.Calls.{recordRows, requestOf, decode, numberOf, checkRows, checkRequest}
 use Rattle.model.proofs.Rows.{andThen, decide-append, decide-verdict}
 use Rattle.model.specs.declared.Space.{Space}
 use Rattle.model.specs.declared.Request.{Request}

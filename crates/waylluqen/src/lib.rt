@@ -9,8 +9,7 @@ ghost use mathlib.Core.Path.{_≡_};
 ghost use mathlib.Core.List.{_∷_};
 ghost use Rattle.model.specs.Rows.{verdict};
 ghost use Rattle.model.specs.Rules.{spaceRow, requestRows};
-ghost use Rattle.model.specs.Answers.{numberOf, verdictReply};
-ghost use Rattle.model.specs.Check.{spaceOf, checkRequest};
+ghost use Rattle.model.specs.Calls.{numberOf, verdictReply, spaceOf, checkRequest};
 
 // Rows 1 and 6 to 10.
 fn space_and_request(s: Space, r: Request) -> Verdict

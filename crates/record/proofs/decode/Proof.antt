@@ -1,7 +1,7 @@
 -- `record::decode` meets its contract.
 -- Assumes nothing.
 use mathlib.Core.Path.{sym, ap, _∙_}
-use Rattle.model.specs.Answers.{verdictReply}
+use Rattle.model.specs.Calls.{verdictReply}
 use Rattle.record.proofs.Decoding.{decode-other, decode-whole}
 use borrow.Author.Needs.{needs}
 use Rattle.record.proofs.decode.Statement.{statement}

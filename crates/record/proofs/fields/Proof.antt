@@ -1,6 +1,6 @@
 -- `record::fields` meets its contract.
 -- Assumes nothing.
-use Rattle.model.specs.Record.{requestOf}
+use Rattle.model.specs.Calls.{requestOf}
 use borrow.Author.Needs.{needs}
 use Rattle.record.proofs.fields.Statement.{statement}
 use Rattle.record.proofs.fields.Tie as tie

@@ -1,8 +1,7 @@
 -- `waylluqen::waylluqen_check_request` meets its contract.
 -- Assumes nothing.
 use mathlib.Core.Path.{sym, ap, _∙_}
-use Rattle.model.specs.Answers.{numberOf, decodedReply}
-use Rattle.model.specs.Check.{spaceOf}
+use Rattle.model.specs.Calls.{numberOf, decodedReply, spaceOf}
 use Rattle.waylluqen.proofs.Check.{check-by}
 use borrow.Author.Needs.{needs}
 use Rattle.waylluqen.proofs.waylluqen_check_request.Statement.{statement}

@@ -1,0 +1,66 @@
+-- The operations that a grant writes: they replay to the table left, are the ones that document 01 lists, and are as many as it answers.
+-- Assumes nothing.
+use mathlib.Core.Path.{_≡_, refl, sym, ap, subst, _∙_}
+use mathlib.Core.List.{List, _++_, flatMap}
+use Prim.Native.Nat.{ℕ, _+_, _*_, _≤_}
+use native.Mathlib.Omega.{arith}
+use lib.ListN.{length, length-append, length-drop, drop}
+use Rattle.model.specs.Prelude.{some, Space, Mapping, Request, Grant}
+use Rattle.model.specs.Rows.{answered}
+use Rattle.model.specs.Table.{Table, mappings, tableRows}
+use Rattle.model.specs.Cut.{after, operations, operationWords}
+use Rattle.model.specs.Calls.{asked, grantOf, Outcome, outcomeFor, tableAfter}
+use Rattle.model.specs.Grants.{Replays, Replay}
+use Rattle.model.proofs.Tests.{tests}
+use Rattle.model.proofs.Run.{Run, run-ascends}
+use Rattle.model.proofs.Chain.{chain-run}
+use Rattle.model.proofs.Store.{rewritten, holds-rewritten, holds-mappings, length-mappings}
+use Rattle.model.proofs.Granted.{Good, Granting, granting, table-chain}
+use Rattle.model.proofs.Operations.{hit-members, hits-ascend, map-last, count-rule, count-most, operations-most, operations-words}
+use Rattle.model.proofs.Replay.{replays}
+
+-- number 3 settles that the operation slice is long enough
+room-enough : (s : Space) (n : ℕ) (t : Table) → Good s n t → 14 * (t .count + 1) ≤ n
+unfolding tableRows
+room-enough s n t g = omega (tests, g .1 .1 .0, g .1 .1 .1 .0)
+
+pub replay-claim : Replay
+replay-claim s t os q g e =
+    subst (λ (o : Outcome). Replays r t (tableAfter t o) (operations r ms) os (o .operations) g) (sym (w .outcome))
+    (subst (λ (g : Grant). Replays r t (tableAfter t (outcomeFor (answered g) r t os)) (operations r ms) os (outcomeFor (answered g) r t os .operations) g)
+    (sym (w .grant)) it)
+  where
+    w : Granting s t os q g
+    w = granting s t os q g e
+
+    r : Request
+    r = asked q
+
+    ms : List Mapping
+    ms = mappings t
+
+    run : Run 0 ms
+    run = chain-run s 0 _ ms (table-chain s (length os) t (w .good))
+
+    count : length ms ≡ t .count
+    count = length-mappings (t .count) (t .words)
+
+    most : length (operations r ms) ≤ t .count + 1
+    most = omega (arith, operations-most r ms, count)
+
+    it : Replays r t (rewritten t (after r ms)) (operations r ms) os
+        (flatMap operationWords (operations r ms) ++ drop (14 * length (operations r ms)) os) (grantOf r ms)
+    it = record {
+      replayed = replays r ms (w .may .not-empty) run ∙ ap some (sym (holds-mappings t _ (after r ms) (holds-rewritten t (after r ms) (w .room))));
+      hit = hit-members r ms;
+      ascending = hits-ascend r ms (run-ascends 0 ms run);
+      last = map-last r ms;
+      number = refl;
+      words = (refl, kept);
+      counted = omega (arith, count-rule r ms run (w .may .not-empty), count);
+      most = (omega (arith, count-most r ms run (w .may .not-empty), count), most);
+    }
+      where
+        kept : length (flatMap operationWords (operations r ms) ++ drop (14 * length (operations r ms)) os) ≡ length os
+        kept = length-append (flatMap operationWords (operations r ms)) _
+            ∙ omega (arith, operations-words (operations r ms), length-drop (14 * length (operations r ms)) os, room-enough s (length os) t (w .good), most)

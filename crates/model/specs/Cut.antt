@@ -1,0 +1,120 @@
+-- How a request cuts the old mappings (document 01), what it hands the driver for them, and what a byte address shows: of any list of mappings.
+use Rattle.model.specs.Prelude.{Bool, List, [], _∷_, _++_, map, ℕ, zero, suc, _+_, _-_, min, max, leb, ltb, eqb, Mapping, Request, Rests, Lower, Upper, Both, Operation, Map, Remap, Unmap, Shown, Nothing, Object}
+use Rattle.model.specs.Rows.{all, choose}
+use Rattle.model.specs.Rules.{end, stop, apart}
+use Rattle.model.specs.Table.{wordsOf}
+
+-- the part under the address a (document 01: lower rest); size 0 where there is none
+abbrev pub lowerPart : ℕ → Mapping → Mapping
+lowerPart a m = record { address = m .address; size = min a (end m) - m .address; object = m .object; offset = m .offset }
+
+-- the part from b on (document 01: upper rest): its offset moves up by the same distance as its address
+abbrev pub upperPart : ℕ → Mapping → Mapping
+upperPart b m =
+    record { address = max b (m .address); size = end m - max b (m .address); object = m .object; offset = m .offset + (max b (m .address) - m .address) }
+
+-- a mapping of the size n in front of others, unless it is empty
+abbrev pub sized : ℕ → Mapping → List Mapping → List Mapping
+sized zero m ms = ms
+sized (suc n) m ms = m ∷ ms
+
+abbrev pub prepend : Mapping → List Mapping → List Mapping
+prepend m ms = sized (m .size) m ms
+
+-- the parts of all mappings under a, and from b on
+unfoldable pub below : ℕ → List Mapping → List Mapping
+below a [] = []
+below a (m ∷ ms) = prepend (lowerPart a m) (below a ms)
+
+unfoldable pub above : ℕ → List Mapping → List Mapping
+above b [] = []
+above b (m ∷ ms) = prepend (upperPart b m) (above b ms)
+
+-- [a, b) gives way to the mappings new
+abbrev pub put : ℕ → ℕ → List Mapping → List Mapping → List Mapping
+put a b new ms = below a ms ++ (new ++ above b ms)
+
+-- the mapping that a map asks for
+abbrev pub mappingOf : Request → Mapping
+mappingOf r = record { address = r .address; size = r .size; object = r .object; offset = r .offset }
+
+-- what the range gets, by the op: a map's one mapping; nothing
+abbrev pub newFor : ℕ → Mapping → List Mapping
+newFor zero m = m ∷ []
+newFor (suc n) m = []
+
+abbrev pub new : Request → List Mapping
+new r = newFor (r .op) (mappingOf r)
+
+-- the table after a grant
+abbrev pub after : Request → List Mapping → List Mapping
+after r ms = put (r .address) (stop r) (new r) ms
+
+-- an old mapping is hit if it shares a byte with the range, else spared
+abbrev pub spared : Request → Mapping → Bool
+spared r m = apart (m .address) (end m) (r .address) (stop r)
+
+unfoldable pub hits : Request → List Mapping → List Mapping
+hits r [] = []
+hits r (m ∷ ms) = choose (spared r m) (hits r ms) (m ∷ hits r ms)
+
+-- document 01: keep
+abbrev pub keepTests : Request → Mapping → List Bool
+keepTests r m = eqb (r .op) 0 ∷ eqb (m .address) (r .address) ∷ eqb (m .object) (r .object) ∷ eqb (m .offset) (r .offset) ∷ []
+
+abbrev pub keepMark : Request → Mapping → Bool
+keepMark r m = all (keepTests r m)
+
+-- by the sizes of the lower and the upper rest: wholly inside the range, an unmap; else one remap
+abbrev pub operationFor : ℕ → ℕ → Bool → Mapping → Mapping → Mapping → Operation
+operationFor zero zero keep m l u = Unmap keep m
+operationFor (suc i) zero keep m l u = Remap keep m (Lower l)
+operationFor zero (suc j) keep m l u = Remap keep m (Upper u)
+operationFor (suc i) (suc j) keep m l u = Remap keep m (Both l u)
+
+abbrev pub operationOf : Request → Mapping → Operation
+operationOf r m =
+    operationFor (lowerPart (r .address) m .size) (upperPart (stop r) m .size) (keepMark r m) m (lowerPart (r .address) m) (upperPart (stop r) m)
+
+-- the operations, in ascending address of the old mapping; a map's own at the very end
+unfoldable pub operations : Request → List Mapping → List Operation
+operations r ms = map (operationOf r) (hits r ms) ++ map Map (new r)
+
+-- the old mapping of an operation, if it has one, and its rests
+abbrev pub restsOf : Rests → List Mapping
+restsOf (Lower l) = l ∷ []
+restsOf (Upper u) = u ∷ []
+restsOf (Both l u) = l ∷ u ∷ []
+
+abbrev pub old : Operation → List Mapping
+old (Map m) = []
+old (Remap keep m rs) = m ∷ []
+old (Unmap keep m) = m ∷ []
+
+abbrev pub rests : Operation → List Mapping
+rests (Map m) = []
+rests (Remap keep m rs) = restsOf rs
+rests (Unmap keep m) = []
+
+-- an absent rest
+abbrev pub absent : List ℕ
+absent = 0 ∷ 0 ∷ 0 ∷ 0 ∷ []
+
+abbrev pub restWords : Rests → List ℕ
+restWords (Lower l) = wordsOf l ++ absent
+restWords (Upper u) = absent ++ wordsOf u
+restWords (Both l u) = wordsOf l ++ wordsOf u
+
+-- kind, keep, the old mapping (a map's new one), the lower rest, the upper rest
+abbrev pub operationWords : Operation → List ℕ
+operationWords (Map m) = 0 ∷ 0 ∷ (wordsOf m ++ (absent ++ absent))
+operationWords (Remap keep m rs) = 1 ∷ choose keep 1 0 ∷ (wordsOf m ++ restWords rs)
+operationWords (Unmap keep m) = 2 ∷ choose keep 1 0 ∷ (wordsOf m ++ (absent ++ absent))
+
+-- document 01: Look-up. The byte address x lies inside m
+abbrev pub insideTests : Mapping → ℕ → List Bool
+insideTests m x = leb (m .address) x ∷ ltb x (end m) ∷ []
+
+unfoldable pub translate : List Mapping → ℕ → Shown
+translate [] x = Nothing
+translate (m ∷ ms) x = choose (all (insideTests m x)) (Object (m .object) (m .offset + (x - m .address))) (translate ms x)

@@ -1,0 +1,142 @@
+-- Document 01's rules in words; its numbers are written out, but for the 512 mappings. A call gives a line's answer exactly if its rule is broken and no line's above it.
+use Rattle.model.specs.Prelude.{_≡_, _⊎_, _↔_, List, [], _∷_, flatMap, List·Memᴰ, ℕ, suc, _+_, _*_, _/_, _%_, _^_, _≤_, _<_, length, take, Space, Mapping, Request, Shown, Grant}
+use Rattle.model.specs.Calls.{Reply, refused, answered, mostMappings, end, stop, requestOf, recordOf, Table, mappings, badPlace, new, operations, old, rests, translate, Asking, numbers, bytes, asked, grantOf, bind, lookup, checkRequest, verdictReply, decodedReply, answerReply, foundReply}
+
+infix 40 _∈_ _⊆_
+abbrev pub Each : {A : Type 0} → (A → Type 0) → List A → Type 0
+Each P [] = Unit {0}
+Each P (x ∷ xs) = P x × Each P xs
+
+abbrev pub _∈_ : {A : Type 0} → A → List A → Type 0
+_∈_ x xs = List·Memᴰ x xs
+
+abbrev pub _⊆_ : {A : Type 0} → List A → List A → Type 0
+_⊆_ xs ys = Each (λ x. x ∈ ys) xs
+
+-- each is related to those behind it
+abbrev pub Ordered : {A : Type 0} → (A → A → Type 0) → List A → Type 0
+Ordered R [] = Unit {0}
+Ordered R (x ∷ xs) = Each (R x) xs × Ordered R xs
+
+abbrev pub Multiple : ℕ → Type 0
+Multiple x = x % 4096 ≡ 0
+
+-- [a, b) lies inside [c, d); they share a byte
+abbrev pub Inside : ℕ → ℕ → ℕ → ℕ → Type 0
+Inside a b c d = (c ≤ a) × (b ≤ d)
+
+abbrev pub ShareByte : ℕ → ℕ → ℕ → ℕ → Type 0
+ShareByte a b c d = (x : ℕ) × (a ≤ x) × (x < b) × (c ≤ x) × (x < d)
+
+pub record SpaceRules (s : Space) : Type 0 where
+  pub multiples : Multiple (s .start) × Multiple (s .size) × Multiple (s .reserved .start) × Multiple (s .reserved .size)
+  pub size-least : 4096 ≤ s .size
+  pub end-most : s .start + s .size ≤ 2 ^ 48
+  pub no-reservation : s .reserved .size ≡ 0 → s .reserved .start ≡ 0
+  pub reservation : 0 < s .reserved .size → Inside (s .reserved .start) (s .reserved .start + s .reserved .size) (s .start) (s .start + s .size)
+
+pub record MappingRules (s : Space) (m : Mapping) : Type 0 where
+  pub multiples : Multiple (m .address) × Multiple (m .size) × Multiple (m .offset)
+  pub size-least : 4096 ≤ m .size
+  pub object-range : (1 ≤ m .object) × (m .object < 2 ^ 32)
+  pub offset-end-most : m .offset + m .size ≤ 2 ^ 48
+  pub within : Inside (m .address) (end m) (s .start) (s .start + s .size)
+  pub unreserved : ShareByte (m .address) (end m) (s .reserved .start) (s .reserved .start + s .reserved .size) → ⊥
+
+-- each mapping ends at or before the next one's address
+abbrev pub Ascends : List Mapping → Type 0
+Ascends ms = Ordered (λ m n. end m ≤ n .address) ms
+
+abbrev pub TableRules : Space → List Mapping → Type 0
+TableRules s ms = Each (MappingRules s) ms × Ascends ms
+
+-- a refusal table: lines from the top, each with its answer and its rule, and the answer where every rule is kept
+pub data RefusalTable (A : Type 0) : Type 1 where
+  line : A → Type 0 → RefusalTable A → RefusalTable A
+  otherwise : A → RefusalTable A
+
+-- the table's answer: the first line's whose rule is broken
+abbrev pub Gives : {A : Type 0} → RefusalTable A → A → Type 0
+Gives (line n Rule rest) a = ((Rule → ⊥) × (a ≡ n)) ⊎ (Rule × Gives rest a)
+Gives (otherwise n) a = a ≡ n
+
+-- 13 and 14; 6 to 10. `refuse` is how the call answers a number
+abbrev pub formLines : {A : Type 0} → (ℕ → A) → Request → RefusalTable A → RefusalTable A
+formLines refuse r rest = line (refuse 13) (r .op < 2) (line (refuse 14) ((r .flags ≡ 0) × (r .pad ≡ 0)) rest)
+
+abbrev pub requestLines : {A : Type 0} → (ℕ → A) → Space → Request → RefusalTable A → RefusalTable A
+requestLines refuse s r rest =
+    line (refuse 6) (Multiple (r .address) × Multiple (r .size) × Multiple (r .offset) × (0 < r .size))
+    (line (refuse 7) (Inside (r .address) (stop r) (s .start) (s .start + s .size))
+    (line (refuse 8) (ShareByte (r .address) (stop r) (s .reserved .start) (s .reserved .start + s .reserved .size) → ⊥)
+    (line (refuse 9) ((r .op ≡ 0 → (1 ≤ r .object) × (r .object < 2 ^ 32)) × (r .op ≡ 1 → (r .object ≡ 0) × (r .offset ≡ 0)))
+    (line (refuse 10) (r .op ≡ 0 → r .offset + r .size ≤ 2 ^ 48) rest))))
+
+abbrev pub checkRefusals : List ℕ → Space → RefusalTable ℕ
+checkRefusals bs s =
+    line 12 (length bs ≡ 40) (formLines (λ n. n) (requestOf bs) (line 1 (SpaceRules s) (requestLines (λ n. n) s (requestOf bs) (otherwise 0))))
+
+-- a refusal at place 0
+abbrev pub refusal : {A : Type 0} → ℕ → Reply A
+refusal n = refused n 0
+
+-- number 12: a record is 40 bytes long
+abbrev pub WellFormed : Asking → Type 0
+WellFormed (numbers op address size object offset) = Unit {0}
+WellFormed (bytes bs) = length bs ≡ 40
+
+-- 1 and 2; 4 and 5: the lines that a look-up has too
+abbrev pub spaceLines : {A : Type 0} → Space → Table → RefusalTable (Reply A) → RefusalTable (Reply A)
+spaceLines s t rest = line (refusal 1) (SpaceRules s) (line (refusal 2)
+    ((0 < length (t .words)) × (length (t .words) % 4 ≡ 0) × (length (t .words) ≤ 4 * mostMappings)) rest)
+
+abbrev pub mappingLines : {A : Type 0} → Space → Table → RefusalTable (Reply A) → RefusalTable (Reply A)
+mappingLines s t rest = line (refusal 4) (t .count ≤ length (t .words) / 4) (line (refused 5 (badPlace s 0 (mappings t))) (TableRules s (mappings t)) rest)
+
+-- with n words lent for operations. 11: count - hit + lower rests + upper rests + (1 for a map) is within capacity
+abbrev pub bindRefusals : Space → Table → ℕ → Asking → RefusalTable (Reply Grant)
+bindRefusals s t n q =
+    line (refusal 12) (WellFormed q)
+    (formLines refusal (asked q)
+    (spaceLines s t
+    (line (refusal 3) ((length (t .words) / 4 + 1) * 14 ≤ n)
+    (mappingLines s t
+    (requestLines refusal s (asked q)
+    (line (refusal 11) (t .count + length (flatMap rests (operations (asked q) (mappings t))) + length (new (asked q))
+    ≤ length (t .words) / 4 + length (flatMap old (operations (asked q) (mappings t))))
+    (otherwise (answered (grantOf (asked q) (mappings t))))))))))
+
+abbrev pub lookupRefusals : Space → Table → ℕ → RefusalTable (Reply Shown)
+lookupRefusals s t x = spaceLines s t (mappingLines s t (otherwise (answered (translate (mappings t) x))))
+
+-- an answer is a exactly if the table gives a
+pub record Exactly : Type 0 where
+  pub of-check : (bs : List ℕ) (s : Space) (n : ℕ) → (checkRequest bs s ≡ n) ↔ Gives (checkRefusals bs s) n
+  pub of-bind : (s : Space) (t : Table) (os : List ℕ) (q : Asking) (a : Reply Grant) → (bind s t os q .answer ≡ a) ↔ Gives (bindRefusals s t (length os) q) a
+  pub of-lookup : (s : Space) (t : Table) (x : ℕ) (a : Reply Shown) → (lookup s t x ≡ a) ↔ Gives (lookupRefusals s t x) a
+  -- the place of number 5 is the lowest: the mappings before it keep the rules, and with it no more
+  pub lowest : (s : Space) (ms : List Mapping) (p : ℕ) → (TableRules s ms → ⊥) → badPlace s 0 ms ≡ p
+      → (p < length ms) × TableRules s (take p ms) × (TableRules s (take (suc p) ms) → ⊥)
+  -- a refusal changes no lent word
+  pub unchanged : (s : Space) (t : Table) (os : List ℕ) (q : Asking) (n p : ℕ) → bind s t os q .answer ≡ refused n p
+      → (bind s t os q .table ≡ t .words) × (bind s t os q .operations ≡ os)
+  pub lookup-only : (s : Space) (t : Table) (x n p : ℕ) → lookup s t x ≡ refused n p → n ∈ (1 ∷ 2 ∷ 4 ∷ 5 ∷ [])
+
+-- what comes is what was asked: a request whose numbers fit a record's fields as 40 bytes; one whose flags and pad are 0 by numbers
+abbrev pub ReadsBack : Type 0
+ReadsBack = (r : Request) → (Each (λ x. x < 2 ^ 32) (r .op ∷ r .flags ∷ r .object ∷ r .pad ∷ [])
+    → Each (λ x. x < 2 ^ 64) (r .address ∷ r .offset ∷ r .size ∷ []) → (length (recordOf r) ≡ 40) × (asked (bytes (recordOf r)) ≡ r))
+    × (r .flags ≡ 0 → r .pad ≡ 0 → asked (numbers (r .op) (r .address) (r .size) (r .object) (r .offset)) ≡ r)
+
+-- the places of the fields, and the order of their bytes
+abbrev pub RecordLayout : Type 0
+RecordLayout =
+    requestOf (1 ∷ 2 ∷ 3 ∷ 4 ∷ 5 ∷ 6 ∷ 7 ∷ 8 ∷ 9 ∷ 10 ∷ 11 ∷ 12 ∷ 13 ∷ 14 ∷ 15 ∷ 16 ∷ 17 ∷ 18 ∷ 19 ∷ 20 ∷ 21 ∷ 22 ∷ 23 ∷ 24 ∷ 25 ∷ 26 ∷ 27 ∷ 28 ∷ 29 ∷ 30 ∷ 31 ∷ 32 ∷ 33 ∷ 34 ∷ 35 ∷ 36 ∷ 37 ∷ 38 ∷ 39 ∷ 40 ∷ [])
+    ≡ record { op = 67305985; flags = 134678021; object = 202050057; pad = 269422093; address = 1735880461161533969; offset = 2314601843866147353; size = 2893323226570760737 }
+
+-- no two values of an answer enum read alike, so that a promise about the reading pins the value
+abbrev pub Pins : {A B : Type 0} → (A → B) → Type 0
+Pins {A} read = (a b : A) → read a ≡ read b → a ≡ b
+
+abbrev pub Pinned : Type 0
+Pinned = Pins verdictReply × Pins decodedReply × Pins answerReply × Pins foundReply

@@ -1,0 +1,63 @@
+-- A table of mappings in lent words (document 01: Table), and the rows of the refusal table that look at it.
+use Rattle.model.specs.Prelude.{Bool, List, [], _∷_, _++_, flatMap, ℕ, zero, suc, _+_, _-_, _*_, _/_, _%_, leb, ltb, eqb, length, getD, drop, replicate, Space, Mapping}
+use Rattle.model.specs.Rows.{all, choose, Row, row}
+use Rattle.model.specs.Rules.{mostMappings, end, mappingTests, spaceRow}
+
+-- a table as it is lent: its words and its count
+pub record Table : Type 0 where
+  pub words : List ℕ
+  pub count : ℕ
+
+-- its length divided by 4
+abbrev pub capacity : Table → ℕ
+capacity t = length (t .words) / 4
+
+-- the first n mappings in any words, four words each; one behind the last word is zeros
+unfoldable pub mappingsIn : ℕ → List ℕ → List Mapping
+mappingsIn zero ws = []
+mappingsIn (suc n) ws =
+    record { address = getD ws 0 0; size = getD ws 1 0; object = getD ws 2 0; offset = getD ws 3 0 } ∷ mappingsIn n (drop 4 ws)
+
+abbrev pub mappings : Table → List Mapping
+mappings t = mappingsIn (t .count) (t .words)
+
+-- the other way: address, size, object, offset
+abbrev pub wordsOf : Mapping → List ℕ
+wordsOf m = m .address ∷ m .size ∷ m .object ∷ m .offset ∷ []
+
+-- a slice of n words that holds these mappings, and zeros behind the last
+abbrev pub written : ℕ → List Mapping → List ℕ
+written n ms = flatMap wordsOf ms ++ replicate (n - length (flatMap wordsOf ms)) 0
+
+-- the rule of a table: each mapping keeps its own rules, and starts where its forerunner ends or later
+abbrev pub fitTests : Space → ℕ → Mapping → List Bool
+fitTests s from m = leb from (m .address) ∷ mappingTests s m
+
+-- the lowest place of a mapping that breaks a rule, or the number of mappings if none does
+unfoldable pub badPlace : Space → ℕ → List Mapping → ℕ
+badPlace s from [] = 0
+badPlace s from (m ∷ ms) = choose (all (fitTests s from m)) (suc (badPlace s (end m) ms)) 0
+
+-- document 01: the refusal table. Table length 0, not a multiple of 4, or above 2,048 words
+abbrev pub lengthRow : Table → Row
+lengthRow t = row 2 (ltb 0 (length (t .words)) ∷ eqb (length (t .words) % 4) 0 ∷ leb (length (t .words)) (4 * mostMappings) ∷ [])
+
+-- operation slice, of n words, shorter than (capacity + 1) x 14
+abbrev pub operationsRow : ℕ → Table → Row
+operationsRow n t = row 3 (leb ((capacity t + 1) * 14) n ∷ [])
+
+-- count above capacity
+abbrev pub countRow : Table → Row
+countRow t = row 4 (leb (t .count) (capacity t) ∷ [])
+
+-- a mapping breaks its rules or overlaps or precedes its forerunner; the lowest such place
+abbrev pub mappingsRow : Space → Table → Row
+mappingsRow s t =
+    record { number = 5; place = badPlace s 0 (mappings t); tests = eqb (badPlace s 0 (mappings t)) (length (mappings t)) ∷ [] }
+
+-- 1 to 5, as a request has them; 1, 2, 4 and 5, as a look-up has them
+unfoldable pub tableRows : Space → ℕ → Table → List Row
+tableRows s n t = spaceRow s ∷ lengthRow t ∷ operationsRow n t ∷ countRow t ∷ mappingsRow s t ∷ []
+
+unfoldable pub lookupRows : Space → Table → List Row
+lookupRows s t = spaceRow s ∷ lengthRow t ∷ countRow t ∷ mappingsRow s t ∷ []
