@@ -14,6 +14,7 @@ use Rattle.model.specs.Rows.{all, choose}
 use Rattle.model.specs.Rules.{end}
 use Rattle.model.specs.Table.{fitTests, badPlace}
 use Rattle.model.specs.Exactly.{Each, TableRules}
+use Rattle.model.proofs.Actions.{each}
 use Rattle.model.proofs.Numbers.{order}
 use Rattle.model.proofs.Tests.{tests, Says, all-facts, all-true}
 use Rattle.model.proofs.Rules.{mapping-says}
@@ -87,17 +88,16 @@ chain-good s from to (m ∷ ms) h =
 pub good-chain : (s : Space) (ms : List Mapping) → badPlace s 0 ms ≡ length ms → Chain s 0 (top s) ms
 good-chain s ms e = subst (Chain s 0 (top s)) (ap (λ (n : ℕ). take n ms) e ∙ take-length ms) (before-bad s 0 ms (omega arith))
 
-all-from-zero : (ms : List Mapping) → Each (λ n. 0 ≤ n .address) ms
-all-from-zero [] = tt
-all-from-zero (m ∷ ms) = (omega arith, all-from-zero ms)
+rules-chain-all : (s : Space) (ms : List Mapping) → TableRules s ms → Chain s 0 (top s) ms
+rules-chain-all s ms r = rules-chain s 0 ms (omega arith) (each (λ n. 0 ≤ n .address) ms (λ n i. omega arith)) r
 
 pub rules-run : (s : Space) (ms : List Mapping) → TableRules s ms → Run 0 ms
-rules-run s ms r = chain-run s 0 (top s) ms (rules-chain s 0 ms (omega arith) (all-from-zero ms) r)
+rules-run s ms r = chain-run s 0 (top s) ms (rules-chain-all s ms r)
 
 pub table-says : (s : Space) (ms : List Mapping) → Says (eqb (badPlace s 0 ms) (length ms) ∷ []) (TableRules s ms)
 table-says s ms = (
   λ h. chain-rules s 0 (top s) ms (good-chain s ms (omega tests)),
-  λ r. let e = chain-good s 0 (top s) ms (rules-chain s 0 ms (omega arith) (all-from-zero ms) r) in (omega (tests, e), tt),
+  λ r. let e = chain-good s 0 (top s) ms (rules-chain-all s ms r) in (omega (tests, e), tt),
 )
 
 pub lowest : (s : Space) (ms : List Mapping) (p : ℕ) → (TableRules s ms → ⊥) → badPlace s 0 ms ≡ p
@@ -106,7 +106,7 @@ lowest s ms p n e = subst
     (λ (p : ℕ). (p < length ms) × TableRules s (take p ms) × (TableRules s (take (suc p) ms) → ⊥)) e (
       inside,
       chain-rules s 0 (top s) (take (badPlace s 0 ms) ms) (before-bad s 0 ms (omega arith)),
-      λ r. let ns : List Mapping = take (suc (badPlace s 0 ms)) ms in with-bad s 0 ms inside (rules-chain s 0 ns (omega arith) (all-from-zero ns) r),
+      λ r. let ns : List Mapping = take (suc (badPlace s 0 ms)) ms in with-bad s 0 ms inside (rules-chain-all s ns r),
     )
   where
     inside : badPlace s 0 ms < length ms
