@@ -1,4 +1,4 @@
--- Demand 2: what look-ups say of the table that a grant leaves.
+-- Demand 2: what byte addresses show in the table that a grant leaves, and that look-ups there are answered.
 -- Assumes nothing.
 use mathlib.Core.Path.{_≡_, sym, ap, subst, _∙_}
 use mathlib.Core.Logic.{_⊎_, inl, inr}

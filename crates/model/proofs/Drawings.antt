@@ -6,9 +6,9 @@ use Rattle.model.specs.Rows.{decide}
 use Rattle.model.specs.Rules.{formRows, requestRows}
 use Rattle.model.specs.Table.{mappingsIn, badPlace, tableRows}
 use Rattle.model.specs.Cut.{below, above, hits, operations}
-use Rattle.model.specs.Calls.{bindRows, bind, requestOf, littleEndian}
+use Rattle.model.specs.Calls.{bindRows, bind}
 use Rattle.model.specs.Drawings.{drawings, Drawings}
 
 pub as-drawn : Drawings
-unfolding drawings bind bindRows decide formRows tableRows requestRows requestOf littleEndian mappingsIn badPlace below above hits operations flatMap
+unfolding drawings bind bindRows decide formRows tableRows requestRows mappingsIn badPlace below above hits operations flatMap
 as-drawn = (refl, (refl, (refl, (refl, (refl, (refl, (refl, (refl, (refl, (refl, (refl, (refl, tt))))))))))))

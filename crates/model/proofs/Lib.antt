@@ -28,7 +28,7 @@ pub mod Replays
 pub mod Demand3
 pub mod Drawings
 pub mod Record
-pub mod Answers
+pub mod Pinned
 pub mod Boundaries
 pub mod Steps
 pub mod Example

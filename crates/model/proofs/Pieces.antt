@@ -12,8 +12,7 @@ use Rattle.model.specs.Cut.{put, mappingOf, newFor, new, after}
 use Rattle.model.specs.Exactly.{_∈_, _⊆_, Ordered, Multiple}
 use Rattle.model.specs.Demand3.{piece, Pieces}
 use Rattle.model.proofs.Numbers.{order}
-use Rattle.model.proofs.Window.{Within}
-use Rattle.model.proofs.Puts.{put-over, put-apart, put-chain}
+use Rattle.model.proofs.Puts.{Within, put-over, put-apart, put-chain}
 use Rattle.model.proofs.Actions.{each, each-mem, each-map, run, same-run}
 use Rattle.model.proofs.Cuts.{Apart, piecesFrom, pieces, CutsFrom, Cuts}
 

@@ -6,12 +6,8 @@ use Prim.Native.Nat.{ℕ, zero, suc, _+_, _-_, _≤_, _<_, min, max}
 use native.Mathlib.Omega.{arith}
 use Rattle.model.specs.Prelude.{Mapping}
 use Rattle.model.specs.Rules.{end}
+use Rattle.model.specs.Exactly.{Each}
 use Rattle.model.specs.Cut.{lowerPart, upperPart, sized, prepend, below, above}
-
--- every mapping lies in [lo, hi) and none is empty
-abbrev pub Within : ℕ → ℕ → List Mapping → Type 0
-Within lo hi [] = Unit {0}
-Within lo hi (m ∷ t) = (lo ≤ m .address) × (0 < m .size) × (end m ≤ hi) × Within lo hi t
 
 pub same : (m n : Mapping) → m .address ≡ n .address → m .size ≡ n .size → m .object ≡ n .object → m .offset ≡ n .offset → m ≡ n
 same m n a s o f = λ i. record { address = a i; size = s i; object = o i; offset = f i }
@@ -126,30 +122,31 @@ unfolding above
 above-append b [] u = refl
 above-append b (m ∷ t) u = ap (prepend (upperPart b m)) (above-append b t u) ∙ prepend-append (upperPart b m) (above b t) (above b u)
 
--- a table whose mappings all lie in [lo, hi), none empty
 pub prepend-cut : (m n : Mapping) (t : List Mapping) → 0 < m .size → n ≡ m → prepend n t ≡ m ∷ t
 prepend-cut m n t h e = ap (λ (x : Mapping). prepend x t) e ∙ prepend-pos m t h
 
-pub below-under : (a lo hi : ℕ) (t : List Mapping) → Within lo hi t → hi ≤ a → below a t ≡ t
+-- mappings that lie all under the address, or all from it on
+pub below-under : (a : ℕ) (t : List Mapping) → Each (λ m. (end m ≤ a) × (0 < m .size)) t → below a t ≡ t
 unfolding below
-below-under a lo hi [] w h = refl
-below-under a lo hi (m ∷ t) w h =
-    prepend-cut m (lowerPart a m) (below a t) (w .1) (same (lowerPart a m) m refl (omega arith) refl refl)
-    ∙ ap (_∷_ m) (below-under a lo hi t (w .3) h)
+below-under a [] h = refl
+below-under a (m ∷ t) h =
+    prepend-cut m (lowerPart a m) (below a t) (h .0 .1) (same (lowerPart a m) m refl (omega (arith, h .0)) refl refl)
+    ∙ ap (_∷_ m) (below-under a t (h .1))
 
-pub below-over : (a lo hi : ℕ) (t : List Mapping) → Within lo hi t → a ≤ lo → below a t ≡ []
+pub below-over : (a : ℕ) (t : List Mapping) → Each (λ m. a ≤ m .address) t → below a t ≡ []
 unfolding below
-below-over a lo hi [] w h = refl
-below-over a lo hi (m ∷ t) w h = prepend-zero (lowerPart a m) (below a t) (omega arith) ∙ below-over a lo hi t (w .3) h
+below-over a [] h = refl
+below-over a (m ∷ t) h = prepend-zero (lowerPart a m) (below a t) (omega (arith, h .0)) ∙ below-over a t (h .1)
 
-pub above-over : (b lo hi : ℕ) (t : List Mapping) → Within lo hi t → b ≤ lo → above b t ≡ t
+pub above-over : (b : ℕ) (t : List Mapping) → Each (λ m. (b ≤ m .address) × (0 < m .size)) t → above b t ≡ t
 unfolding above
-above-over b lo hi [] w h = refl
-above-over b lo hi (m ∷ t) w h =
-    prepend-cut m (upperPart b m) (above b t) (w .1) (same (upperPart b m) m (omega arith) (omega arith) refl (omega arith))
-    ∙ ap (_∷_ m) (above-over b lo hi t (w .3) h)
+above-over b [] h = refl
+above-over b (m ∷ t) h =
+    prepend-cut m (upperPart b m) (above b t) (h .0 .1)
+    (same (upperPart b m) m (omega (arith, h .0)) (omega (arith, h .0)) refl (omega (arith, h .0)))
+    ∙ ap (_∷_ m) (above-over b t (h .1))
 
-pub above-under : (b lo hi : ℕ) (t : List Mapping) → Within lo hi t → hi ≤ b → above b t ≡ []
+pub above-under : (b : ℕ) (t : List Mapping) → Each (λ m. end m ≤ b) t → above b t ≡ []
 unfolding above
-above-under b lo hi [] w h = refl
-above-under b lo hi (m ∷ t) w h = prepend-zero (upperPart b m) (above b t) (omega arith) ∙ above-under b lo hi t (w .3) h
+above-under b [] h = refl
+above-under b (m ∷ t) h = prepend-zero (upperPart b m) (above b t) (omega (arith, h .0)) ∙ above-under b t (h .1)
