@@ -6,17 +6,17 @@ use mathlib.Core.Bool.{Bool, true, false}
 use mathlib.Core.List.{List, [], _∷_}
 use Prim.Native.Nat.{ℕ, suc, _+_, _≤_, _<_}
 use native.Mathlib.Omega.{arith}
-use lib.Dec.{T, eqb}
+use lib.Dec.{eqb}
 use lib.ListN.{length, take}
 use lib.Seq.{take-length}
 use Rattle.model.specs.Prelude.{Space, Mapping}
-use Rattle.model.specs.Rows.{all, choose}
+use Rattle.model.specs.Rows.{all}
 use Rattle.model.specs.Rules.{end}
 use Rattle.model.specs.Table.{fitTests, badPlace}
 use Rattle.model.specs.Exactly.{Each, TableRules}
 use Rattle.model.proofs.Actions.{each}
 use Rattle.model.proofs.Numbers.{order}
-use Rattle.model.proofs.Tests.{tests, Says, all-facts, all-true}
+use Rattle.model.proofs.Tests.{tests, Says, all-facts, not-facts}
 use Rattle.model.proofs.Rules.{mapping-says}
 use Rattle.model.proofs.Run.{Run, run-ascends}
 use Rattle.model.proofs.Chain.{Fit, fit-says, Chain, chain-run}
@@ -42,46 +42,57 @@ rules-chain s from (m ∷ ms) h k r =
 
 -- ── by the tests ──
 
-abbrev Next : Space → Mapping → List Mapping → Bool → ℕ
-Next s m ms b = choose b (suc (badPlace s (end m) ms)) 0
+-- the first mapping fits and the bad place is among the others, or it is the first
+data First (s : Space) (from : ℕ) (m : Mapping) (ms : List Mapping) : Type 0 where
+  fits : Fit s from m → badPlace s from (m ∷ ms) ≡ suc (badPlace s (end m) ms) → First s from m ms
+  fails : (Fit s from m → ⊥) → badPlace s from (m ∷ ms) ≡ 0 → First s from m ms
+
+bad-first : (s : Space) (from : ℕ) (m : Mapping) (ms : List Mapping) → First s from m ms
+unfolding badPlace
+bad-first s from m ms = go (all (fitTests s from m)) refl
+  where
+    go : (b : Bool) → all (fitTests s from m) ≡ b → First s from m ms
+    go true e = fits (fit-says s from m .0 (all-facts (fitTests s from m) e)) (rw (e, badPlace))
+    go false e = fails (λ f. not-facts (fitTests s from m) e (fit-says s from m .1 f)) (rw (e, badPlace))
 
 -- the mappings before the bad place are a chain, and with the one at it no more
 before-bad : (s : Space) (from : ℕ) (ms : List Mapping) → from ≤ top s → Chain s from (top s) (take (badPlace s from ms) ms)
 unfolding badPlace
 before-bad s from [] h = h
-before-bad s from (m ∷ ms) h = go (all (fitTests s from m)) refl (before-bad s (end m) ms)
+before-bad s from (m ∷ ms) h = go (before-bad s (end m) ms) (bad-first s from m ms)
   where
-    go : (b : Bool) → all (fitTests s from m) ≡ b → (end m ≤ top s → Chain s (end m) (top s) (take (badPlace s (end m) ms) ms))
-        → Chain s from (top s) (take (Next s m ms b) (m ∷ ms))
-    go true e ih = let f : Fit s from m = fit-says s from m .0 (all-facts (fitTests s from m) e) in (f, ih (f .high))
-    go false e ih = h
+    go : (end m ≤ top s → Chain s (end m) (top s) (take (badPlace s (end m) ms) ms)) → First s from m ms
+        → Chain s from (top s) (take (badPlace s from (m ∷ ms)) (m ∷ ms))
+    go ih (fits f e) = subst (λ (n : ℕ). Chain s from (top s) (take n (m ∷ ms))) (sym e) (f, ih (f .high))
+    go ih (fails n e) = subst (λ (n : ℕ). Chain s from (top s) (take n (m ∷ ms))) (sym e) h
 
 with-bad : (s : Space) (from : ℕ) (ms : List Mapping) → badPlace s from ms < length ms
     → Chain s from (top s) (take (suc (badPlace s from ms)) ms) → ⊥
 unfolding badPlace
 with-bad s from [] h c = omega arith
-with-bad s from (m ∷ ms) h c = go (all (fitTests s from m)) refl (with-bad s (end m) ms) h c
+with-bad s from (m ∷ ms) h c = go (with-bad s (end m) ms) (bad-first s from m ms)
   where
-    go : (b : Bool) → all (fitTests s from m) ≡ b
-        → (badPlace s (end m) ms < length ms → Chain s (end m) (top s) (take (suc (badPlace s (end m) ms)) ms) → ⊥)
-        → Next s m ms b < suc (length ms) → Chain s from (top s) (take (suc (Next s m ms b)) (m ∷ ms)) → ⊥
-    go true e ih h c = ih (omega (arith, h)) (c .1)
-    go false e ih h c = subst T (sym (all-true (fitTests s from m) (fit-says s from m .1 (c .0))) ∙ e) tt
+    go : (badPlace s (end m) ms < length ms → Chain s (end m) (top s) (take (suc (badPlace s (end m) ms)) ms) → ⊥) → First s from m ms → ⊥
+    go ih (fits f e) = ih (omega (arith, h, e)) (subst (λ (n : ℕ). Chain s from (top s) (take (suc n) (m ∷ ms))) e c .1)
+    go ih (fails n e) = n (subst (λ (n : ℕ). Chain s from (top s) (take (suc n) (m ∷ ms))) e c .0)
 
 bad-most : (s : Space) (from : ℕ) (ms : List Mapping) → badPlace s from ms ≤ length ms
 unfolding badPlace
 bad-most s from [] = omega arith
-bad-most s from (m ∷ ms) = go (all (fitTests s from m)) (bad-most s (end m) ms)
+bad-most s from (m ∷ ms) = go (bad-most s (end m) ms) (bad-first s from m ms)
   where
-    go : (b : Bool) → badPlace s (end m) ms ≤ length ms → Next s m ms b ≤ suc (length ms)
-    go true h = omega (arith, h)
-    go false h = omega arith
+    go : badPlace s (end m) ms ≤ length ms → First s from m ms → badPlace s from (m ∷ ms) ≤ suc (length ms)
+    go ih (fits f e) = omega (arith, ih, e)
+    go ih (fails n e) = omega (arith, e)
 
 pub chain-good : (s : Space) (from to : ℕ) (ms : List Mapping) → Chain s from to ms → badPlace s from ms ≡ length ms
 unfolding badPlace
 chain-good s from to [] h = refl
-chain-good s from to (m ∷ ms) h =
-    ap (Next s m ms) (all-true (fitTests s from m) (fit-says s from m .1 (h .0))) ∙ ap suc (chain-good s (end m) to ms (h .1))
+chain-good s from to (m ∷ ms) h = go (bad-first s from m ms) (chain-good s (end m) to ms (h .1))
+  where
+    go : First s from m ms → badPlace s (end m) ms ≡ length ms → badPlace s from (m ∷ ms) ≡ suc (length ms)
+    go (fits f e) ih = e ∙ ap suc ih
+    go (fails n e) ih = absurd (n (h .0))
 
 -- ── both ──
 
