@@ -84,7 +84,7 @@ hits-most r (m ∷ ms) = go (hits r (m ∷ ms)) (hits-first r m ms) (hits-most r
 
 -- ── the operations ──
 
-flatMap-append : {A B : Type 0} (f : A → List B) (xs ys : List A) → flatMap f (xs ++ ys) ≡ flatMap f xs ++ flatMap f ys
+pub flatMap-append : {A B : Type 0} (f : A → List B) (xs ys : List A) → flatMap f (xs ++ ys) ≡ flatMap f xs ++ flatMap f ys
 unfolding flatMap
 flatMap-append f [] ys = refl
 flatMap-append f (x ∷ xs) ys = rw (flatMap-append f xs ys, append-assoc)

@@ -76,7 +76,7 @@ with-bad s from (m ∷ ms) h c = go (with-bad s (end m) ms) (bad-first s from m 
     go ih (fits f e) = ih (omega (arith, h, e)) (subst (λ (n : ℕ). Chain s from (top s) (take (suc n) (m ∷ ms))) e c .1)
     go ih (fails n e) = n (subst (λ (n : ℕ). Chain s from (top s) (take (suc n) (m ∷ ms))) e c .0)
 
-bad-most : (s : Space) (from : ℕ) (ms : List Mapping) → badPlace s from ms ≤ length ms
+pub bad-most : (s : Space) (from : ℕ) (ms : List Mapping) → badPlace s from ms ≤ length ms
 unfolding badPlace
 bad-most s from [] = omega arith
 bad-most s from (m ∷ ms) = go (bad-most s (end m) ms) (bad-first s from m ms)

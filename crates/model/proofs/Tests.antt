@@ -65,6 +65,14 @@ all-false bs n = false-of (all bs) (λ t. n (all-alls bs t))
 pub not-facts : (bs : List Bool) → all bs ≡ false → Alls bs → ⊥
 not-facts bs e h = subst T (sym (all-true bs h) ∙ e) tt
 
+-- two lists of tests that hold together
+pub all-same : (bs cs : List Bool) → (Alls bs → Alls cs) → (Alls cs → Alls bs) → all bs ≡ all cs
+all-same bs cs f g = go (all bs) refl
+  where
+    go : (b : Bool) → all bs ≡ b → all bs ≡ all cs
+    go true e = e ∙ sym (all-true cs (f (all-facts bs e)))
+    go false e = e ∙ sym (all-false cs (λ h. not-facts bs e (g h)))
+
 -- the tests hold exactly if the rule is kept
 abbrev pub Says : List Bool → Type 0 → Type 0
 Says bs Rule = (Alls bs → Rule) × (Rule → Alls bs)

@@ -16,7 +16,7 @@ use Rattle.model.proofs.Window.{prepend-pos, prepend-append}
 use Rattle.model.proofs.Numbers.{order}
 
 -- the byte address x lies inside m
-abbrev In : Mapping → ℕ → Type 0
+abbrev pub In : Mapping → ℕ → Type 0
 In m x = (m .address ≤ x) × (x < end m)
 
 in-or-not : (m : Mapping) (x : ℕ) → In m x ⊎ (In m x → ⊥)
@@ -29,11 +29,11 @@ in-or-not m x = go (order (m .address) x) (order (end m) x)
 
 -- ── a mapping in front of others ──
 
-translate-here : (m : Mapping) (ms : List Mapping) (x : ℕ) → In m x → translate (m ∷ ms) x ≡ Object (m .object) (m .offset + (x - m .address))
+pub translate-here : (m : Mapping) (ms : List Mapping) (x : ℕ) → In m x → translate (m ∷ ms) x ≡ Object (m .object) (m .offset + (x - m .address))
 unfolding translate
 translate-here m ms x i = rw (all-true (insideTests m x) (omega tests), translate)
 
-translate-past : (m : Mapping) (ms : List Mapping) (x : ℕ) → (In m x → ⊥) → translate (m ∷ ms) x ≡ translate ms x
+pub translate-past : (m : Mapping) (ms : List Mapping) (x : ℕ) → (In m x → ⊥) → translate (m ∷ ms) x ≡ translate ms x
 unfolding translate
 translate-past m ms x n = rw (all-false (insideTests m x) (λ t. n (omega tests)), translate)
 

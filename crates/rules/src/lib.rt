@@ -1,16 +1,18 @@
-// The rules of a space, a mapping and a request, for any 64-bit numbers: each function is the model's tests, in their order.
-// Sums are compared exactly and none is made that could wrap.
+// The rules of a space, a mapping and a request, for any 64-bit numbers: each function is the model's tests, in their order, but for
+// `mapping_fits`, which has guards before them. Sums are compared exactly and none is made that could wrap.
 use model::Mapping;
 use model::Refusal;
 use model::Request;
 use model::Space;
 use model::Verdict;
 ghost use mathlib.Core.Path.{_≡_};
-ghost use Prim.Native.Nat.{_+_, max};
+ghost use Prim.Native.Nat.{_+_, _≤_, max};
 ghost use lib.Dec.{leb};
 ghost use Rattle.model.specs.Rows.{all, verdict};
-ghost use Rattle.model.specs.Rules.{aligned, apart, spaceTests, mappingTests, formRows, requestRows, alignmentRow, insideRow, objectRow, offsetRow};
+ghost use Rattle.model.specs.Rules.{limit, aligned, apart, spaceTests, formRows, requestRows, alignmentRow, insideRow, objectRow, offsetRow};
+ghost use Rattle.model.specs.Table.{fitTests};
 ghost use Rattle.model.specs.Calls.{numbered, verdictReply};
+ghost use Rattle.rules.specs.Part.{upTo};
 
 const PAGE: u64 = 4096;
 
@@ -51,7 +53,7 @@ fn sum_within(a: u64, b: u64, most: u64) -> bool
     a <= most - b
 }
 
-fn greater(a: u64, b: u64) -> u64
+pub fn greater(a: u64, b: u64) -> u64
     ensures { λ x. ⌜ x ≡ max a b ⌝ }
 {
     if a <= b { b } else { a }
@@ -83,20 +85,24 @@ pub fn space_keeps_rules(s: Space) -> bool
         & sum_at_most(s.reserved.start, s.reserved.size, s.start, s.size)
 }
 
-// The mapping keeps its rules in the space.
-pub fn mapping_keeps_rules(s: Space, m: Mapping) -> bool
-    ensures { λ t. ⌜ t ≡ all (mappingTests s m) ⌝ }
+// The mapping keeps its rules where nothing is reserved and lies between `from` and `stop`.
+pub fn mapping_fits(from: u64, stop: u64, m: Mapping) -> bool
+    requires { ⌜ stop ≤ limit ⌝ }
+    ensures { λ t. ⌜ t ≡ all (fitTests (upTo stop) from m) ⌝ }
 {
-    is_aligned(m.address)
+    if m.size < PAGE {
+        return false;
+    }
+    if !sum_within(m.address, m.size, stop) {
+        return false;
+    }
+    (from <= m.address)
+        & is_aligned(m.address)
         & is_aligned(m.size)
         & is_aligned(m.offset)
-        & (PAGE <= m.size)
         & (1 <= m.object)
         & (m.object <= LAST_OBJECT)
-        & sum_within(m.offset, m.size, LIMIT)
-        & (s.start <= m.address)
-        & sum_at_most(m.address, m.size, s.start, s.size)
-        & are_apart(m.address, m.size, s.reserved.start, s.reserved.size)
+        & (m.offset <= LIMIT - m.size)
 }
 
 fn range_is_aligned(r: Request) -> bool
@@ -183,5 +189,27 @@ pub fn refusal_number(w: Refusal) -> u32
         Refusal::BadRecordLength => 12,
         Refusal::BadOp => 13,
         Refusal::BadFlags => 14,
+    }
+}
+
+// The place that a refusal answers: 5 has its mapping's, the others 0.
+pub fn refusal_place(w: Refusal) -> usize
+    ensures { λ p. ⌜ p ≡ numbered w .1 ⌝ }
+{
+    match w {
+        Refusal::BadMapping(place) => place,
+        Refusal::BadSpace => 0,
+        Refusal::BadTableLength => 0,
+        Refusal::ShortOperations => 0,
+        Refusal::BadCount => 0,
+        Refusal::Unaligned => 0,
+        Refusal::OutsideSpace => 0,
+        Refusal::Reserved => 0,
+        Refusal::BadObject => 0,
+        Refusal::BadOffset => 0,
+        Refusal::NoRoom => 0,
+        Refusal::BadRecordLength => 0,
+        Refusal::BadOp => 0,
+        Refusal::BadFlags => 0,
     }
 }

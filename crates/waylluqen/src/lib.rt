@@ -1,15 +1,51 @@
 // The C boundary: what a C or Rust driver links. host/include/waylluqen.h declares it.
 use model::Decoded;
+use model::Found;
 use model::Range;
 use model::Refusal;
 use model::Request;
+use model::Shown;
 use model::Space;
 use model::Verdict;
 ghost use mathlib.Core.Path.{_≡_};
 ghost use mathlib.Core.List.{_∷_};
 ghost use Rattle.model.specs.Rows.{verdict};
 ghost use Rattle.model.specs.Rules.{spaceRow, requestRows};
-ghost use Rattle.model.specs.Calls.{numberOf, verdictReply, spaceOf, checkRequest};
+ghost use Rattle.model.specs.Calls.{numberOf, verdictReply, foundReply, spaceOf, checkRequest, lookup};
+ghost use Rattle.waylluqen.specs.Words.{translationOf};
+
+// A space, as C hands it over.
+#[repr(C)]
+pub struct SpaceWords {
+    pub start: u64,
+    pub size: u64,
+    pub reserved_start: u64,
+    pub reserved_size: u64,
+}
+
+// What a look-up answers C. Refusal 0: it is answered, and `mapped` is 1 where the address shows an object, else 0.
+#[repr(C)]
+pub struct Translation {
+    pub refusal: u64,
+    pub place: u64,
+    pub mapped: u64,
+    pub object: u64,
+    pub offset: u64,
+}
+
+// The space of four numbers.
+fn space_of(start: u64, size: u64, reserved_start: u64, reserved_size: u64) -> Space
+    ensures { λ s. ⌜ s ≡ spaceOf start size «reserved_start» «reserved_size» ⌝ }
+{
+    Space {
+        start: start,
+        size: size,
+        reserved: Range {
+            start: reserved_start,
+            size: reserved_size,
+        },
+    }
+}
 
 // Rows 1 and 6 to 10.
 fn space_and_request(s: Space, r: Request) -> Verdict
@@ -42,16 +78,59 @@ pub extern "C" fn waylluqen_check_request(
 ) -> u32
     ensures { λ n. ⌜ n ≡ checkRequest (now («record» .entry)) (spaceOf start size «reserved_start» «reserved_size») ⌝ }
 {
-    let s = Space {
-        start: start,
-        size: size,
-        reserved: Range {
-            start: reserved_start,
-            size: reserved_size,
-        },
-    };
+    let s = space_of(start, size, reserved_start, reserved_size);
     match record::decode(record) {
         Decoded::Refuse(w) => rules::refusal_number(w),
         Decoded::Record(r) => verdict_number(space_and_request(s, r)),
     }
+}
+
+// A look-up's answer in words.
+fn found_words(f: Found) -> Translation
+    ensures { λ r. ⌜ r ≡ translationOf (foundReply f) ⌝ }
+{
+    match f {
+        Found::Refused(w) => Translation {
+            refusal: rules::refusal_number(w) as u64,
+            place: rules::refusal_place(w) as u64,
+            mapped: 0,
+            object: 0,
+            offset: 0,
+        },
+        Found::Shows(shown) => match shown {
+            Shown::Nothing => Translation {
+                refusal: 0,
+                place: 0,
+                mapped: 0,
+                object: 0,
+                offset: 0,
+            },
+            Shown::Object(object, offset) => Translation {
+                refusal: 0,
+                place: 0,
+                mapped: 1,
+                object: object,
+                offset: offset,
+            },
+        },
+    }
+}
+
+// What a byte address shows in a table of `count` mappings, or the first of the refusals 1, 2, 4 and 5.
+#[no_mangle]
+pub extern "C" fn waylluqen_lookup(
+    space: SpaceWords,
+    table: &[u64],
+    count: u64,
+    address: u64,
+) -> Translation
+    ensures { λ r. ⌜ r ≡ translationOf (lookup (spaceOf (space .start) (space .size) (space .«reserved_start») (space .«reserved_size»)) (record { words = now (table .entry); count = count }) address) ⌝ }
+{
+    let s = space_of(
+        space.start,
+        space.size,
+        space.reserved_start,
+        space.reserved_size,
+    );
+    found_words(bind::lookup(s, table, count as usize, address))
 }

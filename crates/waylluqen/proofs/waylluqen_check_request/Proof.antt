@@ -7,6 +7,9 @@ use borrow.Author.Needs.{needs}
 use Rattle.waylluqen.proofs.waylluqen_check_request.Statement.{statement}
 use Rattle.waylluqen.proofs.waylluqen_check_request.Tie as tie
 
+space-of-requires : tie.Need-space-of-requires
+space-of-requires c κs = search needs
+
 decode-requires : tie.Need-decode-requires
 decode-requires c κs = search needs
 
@@ -27,22 +30,27 @@ verdict-number-requires c κs = search needs
 
 returns : tie.Need-returns
 returns c =
-    let x = c .before .before .before .before .before .before .args in
+    let decoded = c .before .before .before .before in
+    let x = decoded .before .before .before .args in
     let s = spaceOf (x .start) (x .size) (x .reserved-start) (x .reserved-size) in
-    let read = sym (ap decodedReply (c .before .before .w .given .1)) ∙ c .before .before .before .before .decode .ensures in
+    let read = sym (ap decodedReply (c .before .before .w .given .1)) ∙ decoded .decode .ensures in
     c .refusal-number .ensures ∙ check-by (x .«record» .now) s read
 
 returns-2 : tie.Need-returns-2
 returns-2 c =
-    let x = c .before .before .before .before .before .before .before .args in
+    let checked = c .before in
+    let decoded = checked .before .before .before .before in
+    let x = decoded .before .before .before .args in
     let s = spaceOf (x .start) (x .size) (x .reserved-start) (x .reserved-size) in
-    let read = sym (ap decodedReply (c .before .before .before .r .given .1)) ∙ c .before .before .before .before .before .decode .ensures in
-    c .verdict-number .ensures ∙ ap numberOf (c .before .space-and-request .ensures) ∙ check-by (x .«record» .now) s read
+    let read = sym (ap decodedReply (checked .before .before .r .given .1)) ∙ decoded .decode .ensures in
+    let found = rw (decoded .before .space-of .ensures) at (checked .space-and-request .ensures) in
+    c .verdict-number .ensures ∙ ap numberOf found ∙ check-by (x .«record» .now) s read
 
 pub waylluqen-check-request-spec : {M : Type 1} → statement M
 waylluqen-check-request-spec =
     tie.close
     (tie.spec
+    space-of-requires
     decode-requires
     enum-known-w
     refusal-number-requires

@@ -1,0 +1,26 @@
+-- `bind::lookup_verdict` meets its contract.
+-- Assumes nothing.
+use Rattle.model.specs.Rows.{decide}
+use Rattle.model.specs.Table.{lookupRows}
+use Rattle.rules.proofs.Laws.{held, failed}
+use borrow.Author.Needs.{needs}
+use Rattle.bind.proofs.lookup_verdict.Statement.{statement}
+use Rattle.bind.proofs.lookup_verdict.Tie as tie
+
+space-keeps-rules-requires : tie.Need-space-keeps-rules-requires
+space-keeps-rules-requires c κs = search needs
+
+returns : tie.Need-returns
+unfolding decide lookupRows
+returns c = simp (failed (c .before .space-keeps-rules .ensures) (c .if1 .taken))
+
+table-verdict-requires : tie.Need-table-verdict-requires
+table-verdict-requires c κs = held (c .before .space-keeps-rules .ensures) (c .if1 .left)
+
+returns-2 : tie.Need-returns-2
+unfolding decide lookupRows
+returns-2 c = simp (held (c .before .before .space-keeps-rules .ensures) (c .before .if1 .left)) (c .table-verdict .ensures)
+
+pub lookup-verdict-spec : {M : Type 1} → statement M
+lookup-verdict-spec =
+    tie.close (tie.spec space-keeps-rules-requires returns table-verdict-requires returns-2)

@@ -1,0 +1,6 @@
+pub mod Parts
+pub mod Places
+pub mod Search
+pub mod Spliced
+pub mod Verdicts
+pub mod Words

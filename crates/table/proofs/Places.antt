@@ -1,0 +1,92 @@
+-- Mappings place by place, as a loop over the words meets them.
+-- Assumes nothing.
+use mathlib.Core.Path.{_≡_, refl, sym, ap, subst, _∙_}
+use mathlib.Core.Bool.{true, false}
+use mathlib.Core.List.{List, [], _∷_}
+use Prim.Native.Nat.{ℕ, zero, suc, _+_, _*_, _≤_, _<_}
+use native.Mathlib.Omega.{arith}
+use native.Mathlib.Numerals.{add-one}
+use lib.ListN.{length, getD, drop}
+use lib.Seq.{drop-cons, drop-length, getD-drop}
+use Rattle.model.specs.declared.Mapping.{Mapping}
+use Rattle.model.specs.declared.Space.{Space}
+use Rattle.model.specs.Rows.{all, choose}
+use Rattle.model.specs.Rules.{limit, end}
+use Rattle.model.specs.Table.{mappingsIn, fitTests, badPlace}
+use Rattle.model.proofs.Store.{length-mappings}
+use Rattle.model.proofs.Chain.{Fit, Chain}
+use Rattle.model.proofs.Table.{top, good-chain}
+use Rattle.table.specs.Places.{mappingAt, Valid}
+
+-- a place of the words behind the first mapping
+place-next : (ws : List ℕ) (i : ℕ) → mappingAt (drop 4 ws) i ≡ mappingAt ws (suc i)
+unfolding mappingAt
+place-next ws i = λ j. record {
+  address = word (4 * i) (4 * suc i) (omega arith) j;
+  size = word (4 * i + 1) (4 * suc i + 1) (omega arith) j;
+  object = word (4 * i + 2) (4 * suc i + 2) (omega arith) j;
+  offset = word (4 * i + 3) (4 * suc i + 3) (omega arith) j;
+}
+  where
+    word : (k l : ℕ) → 4 + k ≡ l → getD (drop 4 ws) k 0 ≡ getD ws l 0
+    word k l e = getD-drop 4 ws k 0 ∙ ap (λ (n : ℕ). getD ws n 0) e
+
+pub at-place : (n : ℕ) (ws : List ℕ) (i : ℕ) (d : Mapping) → i < n → getD (mappingsIn n ws) i d ≡ mappingAt ws i
+unfolding mappingsIn mappingAt
+at-place zero ws i d h = absurd (omega arith)
+at-place (suc n) ws zero d h = refl
+at-place (suc n) ws (suc i) d h = at-place n (drop 4 ws) i d (omega arith) ∙ place-next ws i
+
+-- the mappings from place i on: the one at i, and those from the next on
+pub from-place : (ws : List ℕ) (n i : ℕ) (m : Mapping) → i < n → m ≡ mappingAt ws i
+    → drop i (mappingsIn n ws) ≡ m ∷ drop (i + 1) (mappingsIn n ws)
+from-place ws n i m h e =
+    let l : i < length (mappingsIn n ws) = omega (arith, length-mappings n ws) in
+    rw (add-one i) (drop-cons (mappingsIn n ws) i m l ∙ ap (λ (k : Mapping). k ∷ drop (suc i) (mappingsIn n ws)) (at-place n ws i m h ∙ sym e))
+
+-- from behind the last on there is none
+pub from-end : (ws : List ℕ) (n i : ℕ) → i ≡ n → drop i (mappingsIn n ws) ≡ []
+from-end ws n i e = ap (λ (k : ℕ). drop k (mappingsIn n ws)) (e ∙ sym (length-mappings n ws)) ∙ drop-length (mappingsIn n ws)
+
+-- ── the check's loop: what it is to answer is i and the bad place from i on, where the mapping at i has to start at or after `from` ──
+
+pub record BadFrom (s : Space) (ws : List ℕ) (n answer i from : ℕ) : Type 0 where
+  pub is : answer ≡ i + badPlace s from (drop i (mappingsIn n ws))
+
+module _ {s : Space} {ws : List ℕ} {n answer i from : ℕ} where
+  module _ {m : Mapping} (h : i < n) (e : m ≡ mappingAt ws i) (g : BadFrom s ws n answer i from) where
+    here : badPlace s from (drop i (mappingsIn n ws))
+        ≡ choose (all (fitTests s from m)) (suc (badPlace s (end m) (drop (i + 1) (mappingsIn n ws)))) 0
+    unfolding badPlace
+    here = ap (badPlace s from) (from-place ws n i m h e)
+
+    pub bad-next : all (fitTests s from m) ≡ true → BadFrom s ws n answer (i + 1) (end m)
+    bad-next t = record { is = omega (arith, g .is, rw (t, choose) at here) }
+
+    pub bad-here : all (fitTests s from m) ≡ false → i ≡ answer
+    bad-here t = omega (arith, g .is, rw (t, choose) at here)
+
+  pub bad-end : i ≡ n → BadFrom s ws n answer i from → i ≡ answer
+  unfolding badPlace
+  bad-end e g = omega (arith, g .is, ap (badPlace s from) (from-end ws n i e))
+
+-- ── a table that passed its check ──
+
+chain-at : (s : Space) (from to : ℕ) (ms : List Mapping) (i : ℕ) (d : Mapping) → Chain s from to ms → i < length ms
+    → (a : ℕ) × Fit s a (getD ms i d)
+chain-at s from to [] i d c h = absurd (omega arith)
+chain-at s from to (m ∷ ms) zero d c h = (from, c .0)
+chain-at s from to (m ∷ ms) (suc i) d c h = chain-at s (end m) to ms i d (c .1) (omega arith)
+
+module _ {ws : List ℕ} {n : ℕ} (v : Valid ws n) where
+  pub valid-chain : Chain (v .space) 0 (top (v .space)) (mappingsIn n ws)
+  valid-chain = good-chain (v .space) (mappingsIn n ws) (v .kept ∙ sym (length-mappings n ws))
+
+  -- no sum of a mapping in it is large
+  pub valid-at : {m : Mapping} (i : ℕ) → i < n → m ≡ mappingAt ws i → (end m ≤ limit) × (m .offset + m .size ≤ limit)
+  valid-at {m} i h e =
+      let ms : List Mapping = mappingsIn n ws in
+      let l : length ms ≡ n = length-mappings n ws in
+      let f = chain-at (v .space) 0 (top (v .space)) ms i m valid-chain (omega arith) in
+      let g : Fit (v .space) (f .0) m = subst (Fit (v .space) (f .0)) (at-place n ws i m h ∙ sym e) (f .1) in
+      (omega (arith, g .high, v .top), g .offset-most)

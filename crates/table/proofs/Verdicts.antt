@@ -1,0 +1,29 @@
+-- What the table's check answers, by the place that its loop gives.
+-- Assumes nothing.
+use mathlib.Core.Path.{_≡_, sym, _∙_}
+use Prim.Native.Nat.{ℕ, _≤_, _<_}
+use lib.ListN.{length}
+use borrow.Author.Tests.{le-leb, lt-leb, eq-eqb, ne-eqb}
+use Rattle.model.specs.declared.Space.{Space}
+use Rattle.model.specs.Rows.{refused, answered, decide, verdict}
+use Rattle.model.specs.Table.{Table, capacity, mappings, badPlace}
+use Rattle.table.specs.Places.{contentRows}
+use Rattle.model.proofs.Store.{length-mappings}
+
+module _ (s : Space) (t : Table) where
+  pub count-refused : capacity t < t .count → refused 4 0 ≡ verdict (contentRows s t)
+  unfolding decide
+  count-refused h = simp (lt-leb (t .count) (capacity t) h)
+
+  module _ (p : ℕ) (h : t .count ≤ capacity t) (e : p ≡ badPlace s 0 (mappings t)) where
+    pub mapping-refused : (p ≡ t .count → ⊥) → refused 5 p ≡ verdict (contentRows s t)
+    unfolding decide
+    mapping-refused n =
+        let k = ne-eqb (badPlace s 0 (mappings t)) (length (mappings t)) (λ q. n (e ∙ q ∙ length-mappings (t .count) (t .words))) in
+        simp (le-leb (t .count) (capacity t) h, k, e)
+
+    pub table-passed : p ≡ t .count → answered tt ≡ verdict (contentRows s t)
+    unfolding decide
+    table-passed q =
+        let k = eq-eqb (badPlace s 0 (mappings t)) (length (mappings t)) (sym e ∙ q ∙ sym (length-mappings (t .count) (t .words))) in
+        simp (le-leb (t .count) (capacity t) h, k)

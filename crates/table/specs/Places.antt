@@ -1,0 +1,39 @@
+-- A table as it is lent, and its mappings by their places.
+-- Assumes nothing.
+use mathlib.Core.Path.{_≡_}
+use mathlib.Core.List.{List, [], _∷_}
+use Prim.Native.Nat.{ℕ, suc, _+_, _*_, _≤_}
+use lib.Dec.{leb}
+use lib.ListN.{length, getD}
+use Rattle.model.specs.declared.Mapping.{Mapping}
+use Rattle.model.specs.declared.Space.{Space}
+use Rattle.model.specs.Rows.{choose, Row}
+use Rattle.model.specs.Rules.{limit}
+use Rattle.model.specs.Table.{Table, mappingsIn, badPlace, lengthRow, countRow, mappingsRow}
+
+-- a table in a lent slice of words
+abbrev pub lent : List ℕ → ℕ → Table
+lent ws count = record { words = ws; count = count }
+
+-- the rows that look at a table in a space: 4 and 5; and 2 before them
+abbrev pub contentRows : Space → Table → List Row
+contentRows s t = countRow t ∷ mappingsRow s t ∷ []
+
+abbrev pub ownRows : Space → Table → List Row
+ownRows s t = lengthRow t ∷ contentRows s t
+
+-- the mapping at place i
+unfoldable pub mappingAt : List ℕ → ℕ → Mapping
+mappingAt ws i = record { address = getD ws (4 * i) 0; size = getD ws (4 * i + 1) 0; object = getD ws (4 * i + 2) 0; offset = getD ws (4 * i + 3) 0 }
+
+-- the place of the first mapping that starts behind x, or the number of mappings if none does
+unfoldable pub firstAbove : ℕ → List Mapping → ℕ
+firstAbove x [] = 0
+firstAbove x (m ∷ ms) = choose (leb (m .address) x) (suc (firstAbove x ms)) 0
+
+-- a table that passed its check: its mappings keep their rules in some space
+pub record Valid (ws : List ℕ) (count : ℕ) : Type 0 where
+  pub held : 4 * count ≤ length ws
+  pub space : Space
+  pub top : space .start + space .size ≤ limit
+  pub kept : badPlace space 0 (mappingsIn count ws) ≡ count

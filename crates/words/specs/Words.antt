@@ -1,0 +1,17 @@
+-- What is done to the words of a slice, as lists.
+-- Assumes nothing.
+use mathlib.Core.List.{List, _++_}
+use Prim.Native.Nat.{ℕ, _+_, _-_}
+use lib.ListN.{length, take, drop, replicate}
+
+-- a run written over the words from place `at` on
+unfoldable pub stored : List ℕ → ℕ → List ℕ → List ℕ
+stored ws at run = take at ws ++ (run ++ drop (at + length run) ws)
+
+-- the n words from `from` on copied to `to` on
+unfoldable pub moved : List ℕ → ℕ → ℕ → ℕ → List ℕ
+moved ws from to n = stored ws to (take n (drop from ws))
+
+-- zeros from place `from` on
+unfoldable pub cleared : List ℕ → ℕ → List ℕ
+cleared ws from = take from ws ++ replicate (length ws - from) 0

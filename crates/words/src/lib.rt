@@ -1,0 +1,94 @@
+// Runs of words inside one lent slice: stored, moved and cleared.
+ghost use mathlib.Core.Path.{_≡_};
+ghost use Prim.Native.Nat.{_+_, _≤_};
+ghost use lib.ListN.{length};
+ghost use Rattle.words.specs.Words.{stored, moved, cleared};
+
+// Writes the run over the words from `at` on.
+pub fn store(t: &mut [u64], at: usize, run: &[u64])
+    requires { ⌜ at + length (now run) ≤ length (now t) ⌝ }
+    ensures { λ _. ⌜ now (t .exit) ≡ stored (now (t .entry)) at (now (run .entry)) ⌝ }
+{
+    let mut j: usize = 0;
+    while j < run.len() {
+        t[at + j] = run[j];
+        j += 1;
+    }
+}
+
+// Copies four words. The two runs may overlap: all four are read before one is written.
+fn copy_four(t: &mut [u64], from: usize, to: usize)
+    requires { ⌜ (from + 4 ≤ length (now t)) × (to + 4 ≤ length (now t)) ⌝ }
+    ensures { λ _. ⌜ now (t .exit) ≡ moved (now (t .entry)) from to 4 ⌝ }
+{
+    let a = t[from];
+    let b = t[from + 1];
+    let c = t[from + 2];
+    let d = t[from + 3];
+    t[to] = a;
+    t[to + 1] = b;
+    t[to + 2] = c;
+    t[to + 3] = d;
+}
+
+// Copies the `n` words from `from` on to `to` on, where `to` is not above `from`: from the first word to the last.
+fn move_down(t: &mut [u64], from: usize, to: usize, n: usize)
+    requires { ⌜ (to ≤ from) × (from + n ≤ length (now t)) ⌝ }
+    ensures { λ _. ⌜ now (t .exit) ≡ moved (now (t .entry)) from to n ⌝ }
+{
+    let mut j: usize = 0;
+    while j < n {
+        if 4 <= n - j {
+            copy_four(t, from + j, to + j);
+            j += 4;
+        } else {
+            t[to + j] = t[from + j];
+            j += 1;
+        }
+    }
+}
+
+// The same where `to` is not below `from`: from the last word to the first.
+fn move_up(t: &mut [u64], from: usize, to: usize, n: usize)
+    requires { ⌜ (from ≤ to) × (to + n ≤ length (now t)) ⌝ }
+    ensures { λ _. ⌜ now (t .exit) ≡ moved (now (t .entry)) from to n ⌝ }
+{
+    let mut j = n;
+    while 0 < j {
+        if 4 <= j {
+            j -= 4;
+            copy_four(t, from + j, to + j);
+        } else {
+            j -= 1;
+            t[to + j] = t[from + j];
+        }
+    }
+}
+
+// Copies the `n` words from `from` on to `to` on; the two runs may overlap.
+pub fn move_run(t: &mut [u64], from: usize, to: usize, n: usize)
+    requires { ⌜ (from + n ≤ length (now t)) × (to + n ≤ length (now t)) ⌝ }
+    ensures { λ _. ⌜ now (t .exit) ≡ moved (now (t .entry)) from to n ⌝ }
+{
+    if from == to {
+        return;
+    }
+    if from < to {
+        move_up(t, from, to, n)
+    } else {
+        move_down(t, from, to, n)
+    }
+}
+
+// Makes the words from `from` on zero.
+pub fn clear_from(t: &mut [u64], from: usize)
+    requires { ⌜ from ≤ length (now t) ⌝ }
+    ensures { λ _. ⌜ now (t .exit) ≡ cleared (now (t .entry)) from ⌝ }
+{
+    // Counted down, so that the last word is the one with 1 left.
+    let mut left = t.len() - from;
+    while 0 < left {
+        t[t.len() - left] = 0;
+        left -= 1;
+    }
+}
