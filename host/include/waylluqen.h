@@ -1,4 +1,4 @@
-/* Waylluqen: checks the requests that change a GPU address space. */
+/* Waylluqen: checks the requests that change a GPU address space, and looks addresses up in it. */
 #ifndef WAYLLUQEN_H
 #define WAYLLUQEN_H
 
@@ -13,6 +13,9 @@ extern "C" {
 enum waylluqen_refusal {
     WAYLLUQEN_OK = 0,
     WAYLLUQEN_BAD_SPACE = 1,
+    WAYLLUQEN_BAD_TABLE_LENGTH = 2,
+    WAYLLUQEN_BAD_COUNT = 4,
+    WAYLLUQEN_BAD_MAPPING = 5,
     WAYLLUQEN_UNALIGNED = 6,
     WAYLLUQEN_OUTSIDE_SPACE = 7,
     WAYLLUQEN_RESERVED = 8,
@@ -22,6 +25,23 @@ enum waylluqen_refusal {
     WAYLLUQEN_BAD_OP = 13,
     WAYLLUQEN_BAD_FLAGS = 14
 };
+
+/*
+ * The space [start, start + size). Its part [reserved_start, reserved_start + reserved_size) is
+ * reserved; reserved_size 0 with reserved_start 0 means that nothing is.
+ *
+ * Its rules: all four are multiples of a page, which is 4096 bytes; size is not 0; the space ends
+ * at or below 2^48; the reservation is inside the space; reserved_start is 0 where reserved_size
+ * is. Any numbers may be given: a space that breaks a rule is refused.
+ *
+ * Here and below sums are exact, none wraps; and ranges that only touch share no byte.
+ */
+typedef struct {
+    uint64_t start;
+    uint64_t size;
+    uint64_t reserved_start;
+    uint64_t reserved_size;
+} waylluqen_space;
 
 /*
  * Checks one request to map or unmap a range, as it came from the caller of a driver.
@@ -35,9 +55,7 @@ enum waylluqen_refusal {
  *   bytes 24..32  bo_offset  offset in the object; 0 for an unmap
  *   bytes 32..40  range      size of the range in bytes
  *
- * The space is [start, start + size). Its part [reserved_start, reserved_start + reserved_size)
- * is reserved; reserved_size 0 with reserved_start 0 means that nothing is. A page is 4096
- * bytes. Sums are exact: none wraps. Ranges that only touch share no byte.
+ * The four numbers are those of a waylluqen_space.
  *
  * record: record_bytes readable bytes, of any alignment. Not NULL, also where record_bytes is 0.
  * The numbers may have any value. The function writes nowhere.
@@ -46,9 +64,7 @@ enum waylluqen_refusal {
  *   WAYLLUQEN_BAD_RECORD_LENGTH  record_bytes is not 40
  *   WAYLLUQEN_BAD_OP             op is neither 0 nor 1
  *   WAYLLUQEN_BAD_FLAGS          flags or pad is not 0
- *   WAYLLUQEN_BAD_SPACE          one of the four numbers is no multiple of a page, size is 0, the
- *                                space ends above 2^48, the reservation is not inside the space,
- *                                or reserved_size is 0 and reserved_start is not
+ *   WAYLLUQEN_BAD_SPACE          the space breaks one of its rules
  *   WAYLLUQEN_UNALIGNED          addr, range or bo_offset is no multiple of a page, or range is 0
  *   WAYLLUQEN_OUTSIDE_SPACE      [addr, addr + range) is not inside the space
  *   WAYLLUQEN_RESERVED           [addr, addr + range) shares a byte with the reservation
@@ -57,6 +73,45 @@ enum waylluqen_refusal {
  */
 uint32_t waylluqen_check_request(const uint8_t *record, size_t record_bytes, uint64_t start,
                                  uint64_t size, uint64_t reserved_start, uint64_t reserved_size);
+
+/* The answer to a look-up. What does not apply is 0. */
+typedef struct {
+    uint64_t refusal; /* WAYLLUQEN_OK, or why the look-up is not answered */
+    uint64_t place;   /* WAYLLUQEN_BAD_MAPPING: the lowest place, from 0, of a mapping at fault */
+    uint64_t mapped;  /* 1 if the address is in a mapping */
+    uint64_t object;  /* what is mapped there */
+    uint64_t offset;  /* which byte of the object it is */
+} waylluqen_translation;
+
+/*
+ * Looks up what the byte at an address shows.
+ *
+ * The table holds the mappings of the space in ascending order, four words each:
+ *   word 0  address  first address of the mapping
+ *   word 1  size     size of the mapping in bytes
+ *   word 2  object   what is mapped
+ *   word 3  offset   offset in the object of the mapping's first byte
+ * There are count mappings; the words behind them are not looked at.
+ *
+ * The rules of a mapping: address, size and offset are multiples of a page; size is not 0; object
+ * is 1 to 2^32 - 1; offset + size is at most 2^48; [address, address + size) is inside the space
+ * and shares no byte with the reservation. Of two that overlap or are in the wrong order, the one
+ * behind is at fault.
+ *
+ * table: table_words words that can be read, aligned as a uint64_t is. Not NULL, also where
+ * table_words is 0. The words and the numbers may have any value. The function writes nowhere.
+ *
+ * Refuses with the first of these that is true, in this order:
+ *   WAYLLUQEN_BAD_SPACE          the space breaks one of its rules
+ *   WAYLLUQEN_BAD_TABLE_LENGTH   table_words is 0, no multiple of 4, or above 2048
+ *   WAYLLUQEN_BAD_COUNT          count is above table_words / 4
+ *   WAYLLUQEN_BAD_MAPPING        a mapping breaks one of its rules, or overlaps or precedes the
+ *                                one before it
+ * Else it answers: an address inside a mapping shows the object at offset + (address - the
+ * mapping's address); any other shows nothing, also one outside the space.
+ */
+waylluqen_translation waylluqen_lookup(waylluqen_space space, const uint64_t *table,
+                                       size_t table_words, uint64_t count, uint64_t address);
 
 #ifdef __cplusplus
 }

@@ -1,15 +1,23 @@
-//! Checks the requests that change a GPU address space.
+//! Checks the requests that change a GPU address space, and looks addresses up in it.
 //!
 //! The work is done by a proved static library; this crate gives it a safe Rust interface.
-//! The rules and the layout of a record are in `include/waylluqen.h`.
+//! The rules and the layout of a record and of a table are in `include/waylluqen.h`.
 
 #![no_std]
 #![warn(missing_docs)]
 
-/// The request may be carried out.
+pub mod ffi;
+
+/// Nothing is refused.
 pub const OK: u32 = 0;
 /// The space breaks its rules.
 pub const BAD_SPACE: u32 = 1;
+/// The table's length is 0, no multiple of four words, or above 2,048 words.
+pub const BAD_TABLE_LENGTH: u32 = 2;
+/// The count is above the number of mappings that the table has room for.
+pub const BAD_COUNT: u32 = 4;
+/// A mapping breaks its rules, or overlaps or precedes its forerunner.
+pub const BAD_MAPPING: u32 = 5;
 /// An address, size or offset is no multiple of a page, or the size is 0.
 pub const UNALIGNED: u32 = 6;
 /// The range is not inside the space.
@@ -28,6 +36,7 @@ pub const BAD_OP: u32 = 13;
 pub const BAD_FLAGS: u32 = 14;
 
 /// An address space and the part of it that is reserved; any numbers are allowed.
+#[repr(C)]
 #[derive(Clone, Copy, Debug, PartialEq, Eq)]
 pub struct Space {
     /// The first address.
@@ -40,15 +49,22 @@ pub struct Space {
     pub reserved_size: u64,
 }
 
-extern "C" {
-    fn waylluqen_check_request(
-        record: *const u8,
-        record_bytes: usize,
-        start: u64,
-        size: u64,
-        reserved_start: u64,
-        reserved_size: u64,
-    ) -> u32;
+/// The byte of an object that an address shows.
+#[derive(Clone, Copy, Debug, PartialEq, Eq)]
+pub struct Translation {
+    /// The object, from 1 to 2^32 - 1.
+    pub object: u64,
+    /// The byte's offset in it.
+    pub offset: u64,
+}
+
+/// Why a look-up is not answered.
+#[derive(Clone, Copy, Debug, PartialEq, Eq)]
+pub struct Refused {
+    /// The first rule that is broken, as one of this crate's constants.
+    pub number: u32,
+    /// For [`BAD_MAPPING`] the lowest place, counted from 0, of a mapping at fault; else 0.
+    pub place: u64,
 }
 
 /// Checks one request record: the first reason to refuse it, or [`OK`].
@@ -68,7 +84,7 @@ pub fn check_request(record: &[u8], space: Space) -> u32 {
     // SAFETY: a slice's pointer is not null, also where the slice is empty, and all its bytes
     // can be read. The function takes any numbers and writes nowhere.
     unsafe {
-        waylluqen_check_request(
+        ffi::waylluqen_check_request(
             record.as_ptr(),
             record.len(),
             space.start,
@@ -77,4 +93,46 @@ pub fn check_request(record: &[u8], space: Space) -> u32 {
             space.reserved_size,
         )
     }
+}
+
+/// Looks up what the byte at `address` shows in the first `count` mappings of a table.
+///
+/// A mapping is four words: address, size, object, offset. Any address may be asked for; one that
+/// is in no mapping shows `None`.
+///
+/// ```
+/// use waylluqen::{lookup, Refused, Space, Translation, BAD_MAPPING};
+///
+/// let space = Space { start: 0, size: 0x10_0000, reserved_start: 0, reserved_size: 0 };
+/// let mut table = [0; 8]; // room for two mappings
+/// table[..4].copy_from_slice(&[0x1000, 0x2000, 7, 0x5000]);
+/// let shown = Translation { object: 7, offset: 0x6008 };
+/// assert_eq!(lookup(space, &table, 1, 0x2008), Ok(Some(shown)));
+/// assert_eq!(lookup(space, &table, 1, 0x3000), Ok(None));
+///
+/// // The zeros behind are no mapping.
+/// let refused = Refused { number: BAD_MAPPING, place: 1 };
+/// assert_eq!(lookup(space, &table, 2, 0x2008), Err(refused));
+/// ```
+pub fn lookup(
+    space: Space,
+    table: &[u64],
+    count: u64,
+    address: u64,
+) -> Result<Option<Translation>, Refused> {
+    // SAFETY: a slice's pointer is aligned and not null, also where the slice is empty, and all
+    // its words can be read. The function takes any numbers and writes nowhere.
+    let answer =
+        unsafe { ffi::waylluqen_lookup(space, table.as_ptr(), table.len(), count, address) };
+    if answer.refusal != 0 {
+        return Err(Refused {
+            number: answer.refusal as u32,
+            place: answer.place,
+        });
+    }
+    let shown = Translation {
+        object: answer.object,
+        offset: answer.offset,
+    };
+    Ok((answer.mapped != 0).then_some(shown))
 }

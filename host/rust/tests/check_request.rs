@@ -1,16 +1,17 @@
-//! Compares the library to the model, input by input.
+//! Compares the library's request check to the model's, input by input.
 
+mod common;
+
+use common::{
+    disturb_space, edge, edge_spaces, edges, given, good_space, other64, pages_in, size_to_edge,
+    HALF, LIMIT,
+};
 use waylluqen_model::random::Random;
 use waylluqen_model::{Request, Space, MAP, PAGE, RECORD_BYTES, UNMAP};
 
-const LIMIT: u64 = 1 << 48;
-const HALF: u64 = 1 << 63;
 const LONGEST_RECORD: usize = 80;
 
 const ANSWERS: [u32; 10] = [0, 1, 6, 7, 8, 9, 10, 12, 13, 14];
-
-/// What is added to a boundary: nothing, a byte and a page, on both sides.
-const DELTAS: [u64; 5] = [0, 1, 1u64.wrapping_neg(), PAGE, PAGE.wrapping_neg()];
 
 /// How often each answer came.
 #[derive(Default)]
@@ -21,13 +22,7 @@ struct Tally {
 
 impl Tally {
     fn compare(&mut self, record: &[u8], space: &Space) {
-        let given = waylluqen::Space {
-            start: space.start,
-            size: space.size,
-            reserved_start: space.reserved_start,
-            reserved_size: space.reserved_size,
-        };
-        let library = waylluqen::check_request(record, given);
+        let library = waylluqen::check_request(record, given(space));
         let model = waylluqen_model::check_request(record, space);
         if library != model {
             report_difference(record, space, library, model);
@@ -56,50 +51,6 @@ fn report_difference(record: &[u8], space: &Space, library: u32, model: u32) -> 
         record.len(),
         hex.join(" ")
     );
-}
-
-/// A number at one of the boundaries, or a byte or a page beside it. 2^64 is the wrapped 0.
-fn edge(random: &mut Random, space: &Space) -> u64 {
-    let boundary = random.pick(&[
-        0,
-        space.start,
-        space.start.wrapping_add(space.size),
-        space.reserved_start,
-        space.reserved_start.wrapping_add(space.reserved_size),
-        1 << 32,
-        LIMIT,
-        HALF,
-    ]);
-    boundary.wrapping_add(random.pick(&DELTAS))
-}
-
-/// A size such that the range from `start` ends at a boundary if the sum is wrapped.
-fn size_to_edge(random: &mut Random, space: &Space, start: u64) -> u64 {
-    edge(random, space).wrapping_sub(start)
-}
-
-/// A range of whole pages in `[start, end)`, as (start, size): often at one of the ends.
-fn pages_in(random: &mut Random, start: u64, end: u64) -> (u64, u64) {
-    let pages = (end - start) / PAGE;
-    let size = 1 + random.up_to(pages - 1);
-    let skipped = random.up_to(pages - size);
-    (start + skipped * PAGE, size * PAGE)
-}
-
-/// A space that keeps its rules.
-fn good_space(random: &mut Random) -> Space {
-    let highest = random.pick(&[LIMIT, LIMIT, 1 << 32, 16 * PAGE]);
-    let (start, size) = pages_in(random, 0, highest);
-    let (reserved_start, reserved_size) = match random.below(4) {
-        0 => (0, 0),
-        _ => pages_in(random, start, start + size),
-    };
-    Space {
-        start,
-        size,
-        reserved_start,
-        reserved_size,
-    }
 }
 
 /// A part of the space that is not reserved; the whole space where there is none.
@@ -148,16 +99,6 @@ fn other32(random: &mut Random) -> u32 {
     random.pick(&[0, 1, 2, u32::MAX, u32::MAX - 1, bit, any])
 }
 
-/// Another value for a 64-bit field: at an edge, beside the present one, or any.
-fn other64(random: &mut Random, space: &Space, present: u64) -> u64 {
-    match random.below(8) {
-        0..=3 => edge(random, space),
-        4..=5 => present.wrapping_add(random.pick(&DELTAS)),
-        6 => present ^ (1 << random.below(64)),
-        _ => random.next_u64(),
-    }
-}
-
 /// Changes one field of the request, or two so that their sum is at an edge.
 fn disturb_request(random: &mut Random, request: &mut Request, space: &Space) {
     match random.below(10) {
@@ -174,25 +115,6 @@ fn disturb_request(random: &mut Random, request: &mut Request, space: &Space) {
             request.range = size_to_edge(random, space, request.addr);
         }
         _ => request.bo_offset = size_to_edge(random, space, request.range),
-    }
-}
-
-/// Changes one field of the space, or two so that their sum is at an edge.
-fn disturb_space(random: &mut Random, space: &mut Space) {
-    let before = *space;
-    match random.below(6) {
-        0 => space.start = other64(random, &before, before.start),
-        1 => space.size = other64(random, &before, before.size),
-        2 => space.reserved_start = other64(random, &before, before.reserved_start),
-        3 => space.reserved_size = other64(random, &before, before.reserved_size),
-        4 => {
-            space.start = edge(random, &before);
-            space.size = size_to_edge(random, &before, space.start);
-        }
-        _ => {
-            space.reserved_start = edge(random, &before);
-            space.reserved_size = size_to_edge(random, &before, space.reserved_start);
-        }
     }
 }
 
@@ -285,15 +207,6 @@ fn every_record_length() {
     assert_eq!(tally.seen[12], ROUNDS * 2 * (lengths - 1));
 }
 
-/// Each boundary with each of the deltas.
-fn edges(boundaries: &[u64]) -> Vec<u64> {
-    let beside = |boundary: &u64| DELTAS.map(|delta| boundary.wrapping_add(delta));
-    let mut all: Vec<u64> = boundaries.iter().flat_map(beside).collect();
-    all.sort_unstable();
-    all.dedup();
-    all
-}
-
 /// This range and offset with both ops and with the lowest and highest objects.
 fn compare_ops_and_objects(tally: &mut Tally, space: &Space, [addr, range, bo_offset]: [u64; 3]) {
     for op in [MAP, UNMAP] {
@@ -369,7 +282,6 @@ fn requests_at_edges() {
 
 #[test]
 fn spaces_at_edges() {
-    let numbers = edges(&[0, 4 * PAGE, 8 * PAGE, LIMIT, HALF]);
     let request = Request {
         op: UNMAP,
         flags: 0,
@@ -381,22 +293,9 @@ fn spaces_at_edges() {
     };
     let record = request.encode();
     let mut tally = Tally::default();
-    for &start in &numbers {
-        for &size in &numbers {
-            for &reserved_start in &numbers {
-                for &reserved_size in &numbers {
-                    let space = Space {
-                        start,
-                        size,
-                        reserved_start,
-                        reserved_size,
-                    };
-                    tally.compare(&record, &space);
-                }
-            }
-        }
+    for space in edge_spaces() {
+        tally.compare(&record, &space);
     }
-    assert_eq!(tally.comparisons, (numbers.len() as u64).pow(4));
     for answer in [0, 1, 7, 8] {
         assert!(tally.seen[answer] > 0, "answer {answer} did not come");
     }

@@ -2,6 +2,9 @@
 
 pub const OK: u32 = 0;
 pub const BAD_SPACE: u32 = 1;
+pub const BAD_TABLE_LENGTH: u32 = 2;
+pub const BAD_COUNT: u32 = 4;
+pub const BAD_MAPPING: u32 = 5;
 pub const UNALIGNED: u32 = 6;
 pub const OUTSIDE_SPACE: u32 = 7;
 pub const RESERVED: u32 = 8;

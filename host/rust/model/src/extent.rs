@@ -19,6 +19,10 @@ impl Extent {
         outer.start <= self.start && self.end <= outer.end
     }
 
+    pub fn has(&self, address: u64) -> bool {
+        (self.start..self.end).contains(&u128::from(address))
+    }
+
     /// Two that only touch share no byte, and an empty one shares none with any.
     pub fn shares_byte_with(&self, other: &Extent) -> bool {
         self.start.max(other.start) < self.end.min(other.end)

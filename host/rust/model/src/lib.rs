@@ -7,13 +7,19 @@
 
 pub mod answer;
 pub mod extent;
+pub mod lookup;
+pub mod mapping;
 pub mod random;
 pub mod request;
 pub mod space;
+pub mod table;
 
 pub use extent::Extent;
+pub use lookup::{lookup, Refused, Translation};
+pub use mapping::{mapping_holds, Mapping, HIGHEST_OBJECT, MAPPING_WORDS};
 pub use request::{decode, request_refusal, Request, MAP, RECORD_BYTES, UNMAP};
 pub use space::{space_holds, Space};
+pub use table::MOST_MAPPINGS;
 
 /// Every address, size and offset is a multiple of a page.
 pub const PAGE: u64 = 4096;
@@ -22,7 +28,7 @@ pub const PAGE: u64 = 4096;
 pub const LIMIT: u128 = 1 << 48;
 
 pub fn is_page_multiple(value: u64) -> bool {
-    value % PAGE == 0
+    value.is_multiple_of(PAGE)
 }
 
 /// The answer to a request record: the record first, then the space, then the request in it.

@@ -76,12 +76,6 @@ fn is_aligned(request: &Request) -> bool {
         && request.range != 0
 }
 
-fn shares_reserved_byte(request: &Request, space: &Space) -> bool {
-    space
-        .reservation()
-        .is_some_and(|reservation| request.extent().shares_byte_with(&reservation))
-}
-
 /// A map names an object; an unmap names none and has no offset. A handle has 32 bits, so no
 /// object is above 2^32 - 1.
 fn object_holds(request: &Request) -> bool {
@@ -101,7 +95,7 @@ pub fn request_refusal(request: &Request, space: &Space) -> Option<u32> {
         Some(answer::UNALIGNED)
     } else if !request.extent().is_inside(&space.extent()) {
         Some(answer::OUTSIDE_SPACE)
-    } else if shares_reserved_byte(request, space) {
+    } else if space.reserves_byte_of(&request.extent()) {
         Some(answer::RESERVED)
     } else if !object_holds(request) {
         Some(answer::BAD_OBJECT)

@@ -22,6 +22,12 @@ impl Space {
         }
         Some(Extent::new(self.reserved_start, self.reserved_size))
     }
+
+    /// Whether a byte of `extent` is reserved.
+    pub fn reserves_byte_of(&self, extent: &Extent) -> bool {
+        self.reservation()
+            .is_some_and(|reservation| extent.shares_byte_with(&reservation))
+    }
 }
 
 /// Whether the space keeps its rules.

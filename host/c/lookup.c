@@ -1,0 +1,388 @@
+/* How a driver looks an address up, and the test of it: tables of cases with their answers. */
+#define _DEFAULT_SOURCE /* for MAP_ANONYMOUS */
+
+#include <inttypes.h>
+#include <stdint.h>
+#include <stdio.h>
+#include <string.h>
+#include <sys/mman.h>
+#include <unistd.h>
+
+#include "waylluqen.h"
+
+#define PAGE UINT64_C(4096)
+#define LIMIT (UINT64_C(1) << 48)
+#define HALF (UINT64_C(1) << 63)
+#define LAST_PAGE (UINT64_MAX - PAGE + 1)
+#define HIGHEST_OBJECT UINT64_C(0xffffffff)
+
+#define MAPPING_WORDS 4
+#define MOST_MAPPINGS 512
+#define LONGEST_TABLE 3000
+/* The most mappings that a case writes out. */
+#define MOST_WRITTEN 5
+
+_Static_assert(sizeof(waylluqen_space) == 32, "four words, without a gap");
+_Static_assert(sizeof(waylluqen_translation) == 40, "five words, without a gap");
+
+struct mapping {
+    uint64_t address;
+    uint64_t size;
+    uint64_t object;
+    uint64_t offset;
+};
+
+/* Table, count and address of a look-up in a space, and the answer. */
+struct test_case {
+    const char *name;
+    waylluqen_translation expected;
+    waylluqen_space space;
+    uint64_t address;
+    uint64_t count;
+    size_t table_words;
+    struct mapping table[MOST_WRITTEN];
+};
+
+/* The common space: [0x100000, 0x200000) with [0x140000, 0x180000) reserved. */
+#define COMMON {0x100000, 0x100000, 0x140000, 0x40000}
+/* The same with nothing reserved, and with all of it. */
+#define FREE {0x100000, 0x100000, 0, 0}
+#define ALL_RESERVED {0x100000, 0x100000, 0x100000, 0x100000}
+/* All that a space may have. */
+#define WIDEST {0, LIMIT, 0, 0}
+#define SPACE(...) {__VA_ARGS__}
+
+#define SHOWS(object, offset) {0, 0, 1, object, offset}
+#define NOTHING {0, 0, 0, 0, 0}
+#define REFUSED(number) {number, 0, 0, 0, 0}
+#define BAD_PLACE(place) {WAYLLUQEN_BAD_MAPPING, place, 0, 0, 0}
+
+/* Two that touch each other, one on each side of the reservation, and the space's last page. */
+#define FIRST {0x100000, 0x2000, 7, 0x3000}
+#define SECOND {0x102000, 0x1000, 8, 0}
+#define THIRD {0x13f000, 0x1000, HIGHEST_OBJECT, 0x1000}
+#define FOURTH {0x180000, 0x1000, 1, 0x5000}
+#define LAST {0x1ff000, 0x1000, 9, LIMIT - PAGE}
+#define FIVE {FIRST, SECOND, THIRD, FOURTH, LAST}
+#define ONES {1, 1, 1, 1}
+
+/* A table that is full of n mappings. */
+#define FULL(n) n, (n) * MAPPING_WORDS
+/* In the common space: an address in the five; one mapping at its address; two at the start. */
+#define IN_FIVE(name, expected, address) {name, expected, COMMON, address, FULL(5), FIVE}
+#define ALONE(name, expected, address, size, object, offset) \
+    {name, expected, COMMON, address, FULL(1), {{address, size, object, offset}}}
+#define PAIR(name, expected, address, size, address2, size2) \
+    {name, expected, COMMON, 0x100000, FULL(2), {{address, size, 7, 0}, {address2, size2, 7, 0}}}
+/* Five of which some are replaced. */
+#define OF_FIVE(name, expected, ...) {name, expected, COMMON, 0x100000, FULL(5), {__VA_ARGS__}}
+/* A space, with the five mappings, all of which are in the common one. */
+#define IN_SPACE(name, expected, ...) {name, expected, __VA_ARGS__, 0x100000, FULL(5), FIVE}
+
+static const struct test_case cases[] = {
+    /* Bytes of a mapping. */
+    IN_FIVE("first byte", SHOWS(7, 0x3000), 0x100000),
+    IN_FIVE("second byte", SHOWS(7, 0x3001), 0x100001),
+    IN_FIVE("second page", SHOWS(7, 0x4000), 0x101000),
+    IN_FIVE("last byte, a neighbour touches", SHOWS(7, 0x4fff), 0x101fff),
+    IN_FIVE("first byte of the neighbour", SHOWS(8, 0), 0x102000),
+    IN_FIVE("last byte before a gap", SHOWS(8, 0xfff), 0x102fff),
+    IN_FIVE("first byte of a gap", NOTHING, 0x103000),
+    IN_FIVE("last byte of a gap", NOTHING, 0x13efff),
+    IN_FIVE("behind a gap", SHOWS(HIGHEST_OBJECT, 0x1000), 0x13f000),
+    IN_FIVE("last byte before the reservation", SHOWS(HIGHEST_OBJECT, 0x1fff), 0x13ffff),
+    IN_FIVE("first reserved byte", NOTHING, 0x140000),
+    IN_FIVE("last reserved byte", NOTHING, 0x17ffff),
+    IN_FIVE("behind the reservation", SHOWS(1, 0x5000), 0x180000),
+    IN_FIVE("last page", SHOWS(9, LIMIT - PAGE), 0x1ff000),
+    IN_FIVE("last byte of the space", SHOWS(9, LIMIT - 1), 0x1fffff),
+
+    /* Outside the space: answered, not refused. */
+    IN_FIVE("end of the space", NOTHING, 0x200000),
+    IN_FIVE("one before the space", NOTHING, 0xfffff),
+    IN_FIVE("address 0", NOTHING, 0),
+    IN_FIVE("address 2^48", NOTHING, LIMIT),
+    IN_FIVE("first byte and 2^32", NOTHING, (UINT64_C(1) << 32) + 0x100000),
+    IN_FIVE("first byte and 2^48", NOTHING, LIMIT + 0x100000),
+    IN_FIVE("first byte and 2^63", NOTHING, HALF + 0x100000),
+    IN_FIVE("highest address", NOTHING, UINT64_MAX),
+    {"all there is, first byte", SHOWS(7, 0), WIDEST, 0, FULL(1), {{0, LIMIT, 7, 0}}},
+    {"all there is, last byte", SHOWS(7, LIMIT - 1), WIDEST, LIMIT - 1, FULL(1),
+     {{0, LIMIT, 7, 0}}},
+    {"all there is, behind it", NOTHING, WIDEST, LIMIT, FULL(1), {{0, LIMIT, 7, 0}}},
+    {"all there is, highest address", NOTHING, WIDEST, UINT64_MAX, FULL(1), {{0, LIMIT, 7, 0}}},
+
+    /* 1: the space, whatever the rest. */
+    IN_SPACE("start one above", REFUSED(1), SPACE(0x100001, 0x100000, 0x140000, 0x40000)),
+    IN_SPACE("size one above", REFUSED(1), SPACE(0x100000, 0x100001, 0x140000, 0x40000)),
+    IN_SPACE("reserved start one above", REFUSED(1),
+             SPACE(0x100000, 0x100000, 0x140001, 0x40000)),
+    IN_SPACE("reserved size one above", REFUSED(1),
+             SPACE(0x100000, 0x100000, 0x140000, 0x40001)),
+    IN_SPACE("size 0", REFUSED(1), SPACE(0x100000, 0, 0, 0)),
+    IN_SPACE("all 0", REFUSED(1), SPACE(0, 0, 0, 0)),
+    IN_SPACE("all highest", REFUSED(1), SPACE(UINT64_MAX, UINT64_MAX, UINT64_MAX, UINT64_MAX)),
+    IN_SPACE("ends at 2^48", SHOWS(7, 0x3000), SPACE(0x100000, LIMIT - 0x100000, 0, 0)),
+    IN_SPACE("ends a page above 2^48", REFUSED(1),
+             SPACE(0x100000, LIMIT - 0x100000 + PAGE, 0, 0)),
+    IN_SPACE("ends above 2^64", REFUSED(1), SPACE(LAST_PAGE, 2 * PAGE, 0, 0)),
+    IN_SPACE("reserved start alone", REFUSED(1), SPACE(0x100000, 0x100000, 0x140000, 0)),
+    IN_SPACE("reserved below the space", REFUSED(1), SPACE(0x100000, 0x100000, 0xff000, PAGE)),
+    IN_SPACE("reserved above the space", REFUSED(1), SPACE(0x100000, 0x100000, 0x200000, PAGE)),
+    {"space before length", REFUSED(1), SPACE(1, PAGE, 0, 0), 0, 0, 0, {ONES}},
+    {"space before count", REFUSED(1), SPACE(1, PAGE, 0, 0), 0, 2, 4, {ONES}},
+    {"space before mappings", REFUSED(1), SPACE(1, PAGE, 0, 0), 0, 1, 4, {ONES}},
+
+    /* 2: the length. */
+    {"length 0", REFUSED(2), COMMON, 0x100000, 0, 0, FIVE},
+    {"length 1", REFUSED(2), COMMON, 0x100000, 0, 1, FIVE},
+    {"length 2", REFUSED(2), COMMON, 0x100000, 0, 2, FIVE},
+    {"length 3", REFUSED(2), COMMON, 0x100000, 0, 3, FIVE},
+    {"length 4", SHOWS(7, 0x3000), COMMON, 0x100000, 1, 4, FIVE},
+    {"length 5", REFUSED(2), COMMON, 0x100000, 1, 5, FIVE},
+    {"length 6", REFUSED(2), COMMON, 0x100000, 1, 6, FIVE},
+    {"length 7", REFUSED(2), COMMON, 0x100000, 1, 7, FIVE},
+    {"length 2044", SHOWS(7, 0x3000), COMMON, 0x100000, 5, 2044, FIVE},
+    {"length 2047", REFUSED(2), COMMON, 0x100000, 5, 2047, FIVE},
+    {"length 2048", SHOWS(7, 0x3000), COMMON, 0x100000, 5, 2048, FIVE},
+    {"length 2049", REFUSED(2), COMMON, 0x100000, 5, 2049, FIVE},
+    {"length 2052", REFUSED(2), COMMON, 0x100000, 5, 2052, FIVE},
+    {"length 3000", REFUSED(2), COMMON, 0x100000, 5, LONGEST_TABLE, FIVE},
+    {"length before count", REFUSED(2), COMMON, 0x100000, UINT64_MAX, 7, FIVE},
+    {"length 0 before count", REFUSED(2), COMMON, 0x100000, 1, 0, FIVE},
+    {"length before mappings", REFUSED(2), COMMON, 0x100000, 1, 7, {ONES}},
+
+    /* 4: the count. */
+    {"count 0", NOTHING, COMMON, 0x100000, 0, 20, FIVE},
+    {"count 0 of one", NOTHING, COMMON, 0x100000, 0, 4, {ONES}},
+    {"count below the room", SHOWS(1, 0x5000), COMMON, 0x180000, 4, 20, FIVE},
+    {"the first word behind the count", NOTHING, COMMON, 0x1ff000, 4, 20, FIVE},
+    {"count a mapping above", REFUSED(4), COMMON, 0x100000, 6, 20, FIVE},
+    {"count of the words", REFUSED(4), COMMON, 0x100000, 20, 20, FIVE},
+    {"count 2^32 above", REFUSED(4), COMMON, 0x100000, (UINT64_C(1) << 32) + 5, 20, FIVE},
+    {"count 2^62 above", REFUSED(4), COMMON, 0x100000, (UINT64_C(1) << 62) + 5, 20, FIVE},
+    {"highest count", REFUSED(4), COMMON, 0x100000, UINT64_MAX, 20, FIVE},
+    {"count above the most", REFUSED(4), COMMON, 0x100000, 513, 2048, FIVE},
+    {"count before mappings", REFUSED(4), COMMON, 0x100000, 2, 4, {ONES}},
+    {"bad mapping behind the count", SHOWS(7, 0x3000), COMMON, 0x100000, 1, 8, {FIRST, ONES}},
+    {"bad mapping at the count", BAD_PLACE(1), COMMON, 0x100000, 2, 8, {FIRST, ONES}},
+
+    /* 5: multiples of a page, and size 0. */
+    ALONE("one page", SHOWS(7, PAGE), 0x100000, PAGE, 7, PAGE),
+    ALONE("address one above", BAD_PLACE(0), 0x100001, PAGE, 7, 0),
+    ALONE("address half a page above", BAD_PLACE(0), 0x100800, PAGE, 7, 0),
+    ALONE("size 0", BAD_PLACE(0), 0x100000, 0, 7, 0),
+    ALONE("size 1", BAD_PLACE(0), 0x100000, 1, 7, 0),
+    ALONE("size one below a page", BAD_PLACE(0), 0x100000, PAGE - 1, 7, 0),
+    ALONE("size one above a page", BAD_PLACE(0), 0x100000, PAGE + 1, 7, 0),
+    ALONE("offset 1", BAD_PLACE(0), 0x100000, PAGE, 7, 1),
+    ALONE("offset one below a page", BAD_PLACE(0), 0x100000, PAGE, 7, PAGE - 1),
+
+    /* 5: the object. */
+    ALONE("object 0", BAD_PLACE(0), 0x100000, PAGE, 0, 0),
+    ALONE("object 1", SHOWS(1, 0), 0x100000, PAGE, 1, 0),
+    ALONE("highest object", SHOWS(HIGHEST_OBJECT, 0), 0x100000, PAGE, HIGHEST_OBJECT, 0),
+    ALONE("object 2^32", BAD_PLACE(0), 0x100000, PAGE, HIGHEST_OBJECT + 1, 0),
+    ALONE("object 2^32 + 7", BAD_PLACE(0), 0x100000, PAGE, HIGHEST_OBJECT + 8, 0),
+    ALONE("object 2^63", BAD_PLACE(0), 0x100000, PAGE, HALF, 0),
+
+    /* 5: offset and size. */
+    ALONE("offset and size are 2^48", SHOWS(7, LIMIT - PAGE), 0x100000, PAGE, 7, LIMIT - PAGE),
+    ALONE("offset and size a page above", BAD_PLACE(0), 0x100000, 2 * PAGE, 7, LIMIT - PAGE),
+    ALONE("offset 2^48", BAD_PLACE(0), 0x100000, PAGE, 7, LIMIT),
+    ALONE("offset 2^63", BAD_PLACE(0), 0x100000, PAGE, 7, HALF),
+    ALONE("offset and size are 2^64", BAD_PLACE(0), 0x100000, PAGE, 7, LAST_PAGE),
+    ALONE("offset and size above 2^64", BAD_PLACE(0), 0x100000, 2 * PAGE, 7, LAST_PAGE),
+
+    /* 5: inside the space. */
+    ALONE("a page below the first", BAD_PLACE(0), 0xff000, PAGE, 7, 0),
+    ALONE("from a page below the start", BAD_PLACE(0), 0xff000, 2 * PAGE, 7, 0),
+    ALONE("last page alone", SHOWS(7, 0), 0x1ff000, PAGE, 7, 0),
+    ALONE("to a page above the end", BAD_PLACE(0), 0x1ff000, 2 * PAGE, 7, 0),
+    ALONE("a page above the last", BAD_PLACE(0), 0x200000, PAGE, 7, 0),
+    ALONE("ends at 2^64", BAD_PLACE(0), LAST_PAGE, PAGE, 7, 0),
+    ALONE("ends above 2^64, at a page", BAD_PLACE(0), LAST_PAGE, 2 * PAGE, 7, 0),
+    ALONE("ends above 2^64, in the space", BAD_PLACE(0), LAST_PAGE, 0x102000, 7, 0),
+    {"widest space, ends above 2^64", BAD_PLACE(0), WIDEST, 0, FULL(1),
+     {{LAST_PAGE, 2 * PAGE, 7, 0}}},
+    {"widest space, both sums above 2^64", BAD_PLACE(0), WIDEST, 0, FULL(1),
+     {{2 * PAGE, LAST_PAGE, 7, PAGE}}},
+    {"widest space, a page more", BAD_PLACE(0), WIDEST, 0, FULL(1), {{0, LIMIT + PAGE, 7, 0}}},
+
+    /* 5: the reservation. */
+    ALONE("touches from below", SHOWS(7, 0), 0x13f000, PAGE, 7, 0),
+    ALONE("shares the first reserved page", BAD_PLACE(0), 0x13f000, 2 * PAGE, 7, 0),
+    ALONE("is the first reserved page", BAD_PLACE(0), 0x140000, PAGE, 7, 0),
+    ALONE("inside the reservation", BAD_PLACE(0), 0x150000, PAGE, 7, 0),
+    ALONE("is the last reserved page", BAD_PLACE(0), 0x17f000, PAGE, 7, 0),
+    ALONE("shares the last reserved page", BAD_PLACE(0), 0x17f000, 2 * PAGE, 7, 0),
+    ALONE("touches from above", SHOWS(7, 0), 0x180000, PAGE, 7, 0),
+    ALONE("around the reservation", BAD_PLACE(0), 0x100000, 0x100000, 7, 0),
+    {"nothing is reserved", SHOWS(7, 0), FREE, 0x150000, FULL(1), {{0x150000, PAGE, 7, 0}}},
+    {"nothing is reserved, address 0", SHOWS(7, 0), WIDEST, 0, FULL(1), {{0, PAGE, 7, 0}}},
+    {"all is reserved", BAD_PLACE(0), ALL_RESERVED, 0x150000, FULL(1), {{0x150000, PAGE, 7, 0}}},
+    {"all is reserved, no mapping", NOTHING, ALL_RESERVED, 0x150000, 0, 4, {ONES}},
+
+    /* 5: the order. */
+    PAIR("apart", SHOWS(7, 0), 0x100000, 0x2000, 0x103000, 0x1000),
+    PAIR("touching", SHOWS(7, 0), 0x100000, 0x2000, 0x102000, 0x1000),
+    PAIR("sharing a page", BAD_PLACE(1), 0x100000, 0x2000, 0x101000, 0x2000),
+    PAIR("equal", BAD_PLACE(1), 0x100000, 0x2000, 0x100000, 0x2000),
+    PAIR("the second inside the first", BAD_PLACE(1), 0x100000, 0x3000, 0x101000, 0x1000),
+    PAIR("the first inside the second", BAD_PLACE(1), 0x101000, 0x1000, 0x100000, 0x3000),
+    PAIR("turned, touching", BAD_PLACE(1), 0x101000, 0x1000, 0x100000, 0x1000),
+    PAIR("turned, apart", BAD_PLACE(1), 0x102000, 0x1000, 0x100000, 0x1000),
+    PAIR("the second at 0", BAD_PLACE(1), 0x100000, 0x1000, 0, 0x1000),
+
+    /* 5: the lowest place. */
+    OF_FIVE("bad at 0", BAD_PLACE(0), ONES, SECOND, THIRD, FOURTH, LAST),
+    OF_FIVE("bad at 1", BAD_PLACE(1), FIRST, ONES, THIRD, FOURTH, LAST),
+    OF_FIVE("bad at 2", BAD_PLACE(2), FIRST, SECOND, ONES, FOURTH, LAST),
+    OF_FIVE("bad at 3", BAD_PLACE(3), FIRST, SECOND, THIRD, ONES, LAST),
+    OF_FIVE("bad at 4", BAD_PLACE(4), FIRST, SECOND, THIRD, FOURTH, ONES),
+    OF_FIVE("bad at 1 and 3", BAD_PLACE(1), FIRST, ONES, THIRD, ONES, LAST),
+    OF_FIVE("bad at all", BAD_PLACE(0), ONES, ONES, ONES, ONES, ONES),
+    OF_FIVE("zeros at 3", BAD_PLACE(3), FIRST, SECOND, THIRD),
+    OF_FIVE("two turned", BAD_PLACE(2), FIRST, THIRD, SECOND, FOURTH, LAST),
+    OF_FIVE("all turned", BAD_PLACE(1), LAST, FOURTH, THIRD, SECOND, FIRST),
+    OF_FIVE("one twice", BAD_PLACE(4), FIRST, SECOND, THIRD, FOURTH, FOURTH),
+};
+
+/* An address in a full table: object p + 1 at place p, a page each, without a gap. */
+struct full_case {
+    const char *name;
+    waylluqen_translation expected;
+    uint64_t address;
+    size_t bad_place; /* the place whose object is 0; MOST_MAPPINGS for none */
+};
+
+static const struct full_case full_cases[] = {
+    {"first of 512", SHOWS(1, 0), 0, MOST_MAPPINGS},
+    {"last byte of the first of 512", SHOWS(1, 0xfff), 0xfff, MOST_MAPPINGS},
+    {"in the middle of 512", SHOWS(257, 0x200005), 0x100005, MOST_MAPPINGS},
+    {"last of 512", SHOWS(512, 0x3fe000), 0x1ff000, MOST_MAPPINGS},
+    {"last byte of 512", SHOWS(512, 0x3fefff), 0x1fffff, MOST_MAPPINGS},
+    {"behind 512", NOTHING, 0x200000, MOST_MAPPINGS},
+    {"bad at 0 of 512", BAD_PLACE(0), 0x1ff000, 0},
+    {"bad at 256 of 512", BAD_PLACE(256), 0, 256},
+    {"bad at 511 of 512", BAD_PLACE(511), 0, 511},
+};
+
+/* Memory between two pages that may not be touched, and how much of it there is. */
+static uint8_t *lent;
+static size_t lent_bytes;
+
+/* Answers 0 where there is no such memory. */
+static int prepare_memory(void)
+{
+    size_t page = (size_t)sysconf(_SC_PAGESIZE);
+    lent_bytes = (LONGEST_TABLE * sizeof(uint64_t) + page - 1) / page * page;
+    uint8_t *all = mmap(NULL, lent_bytes + 2 * page, PROT_NONE, MAP_PRIVATE | MAP_ANONYMOUS, -1, 0);
+    if (all == MAP_FAILED) {
+        return 0;
+    }
+    lent = all + page;
+    return 1;
+}
+
+/*
+ * Copies the words to the front or to the back of the lent memory and makes it read-only: a write
+ * ends the test, and so does a read before the front or behind the back.
+ */
+static const uint64_t *lend(const uint64_t *words, size_t table_words, int at_back)
+{
+    size_t bytes = table_words * sizeof *words;
+    uint8_t *to = at_back ? lent + lent_bytes - bytes : lent;
+    if (mprotect(lent, lent_bytes, PROT_READ | PROT_WRITE) != 0) {
+        return NULL;
+    }
+    memset(lent, 0xa5, lent_bytes);
+    memcpy(to, words, bytes);
+    if (mprotect(lent, lent_bytes, PROT_READ) != 0) {
+        return NULL;
+    }
+    return (const uint64_t *)(const void *)to;
+}
+
+static void print_answer(const char *what, waylluqen_translation answer)
+{
+    printf("  %s: refusal %" PRIu64 ", place %" PRIu64 ", mapped %" PRIu64, what, answer.refusal,
+           answer.place, answer.mapped);
+    printf(", object %#" PRIx64 ", offset %#" PRIx64 "\n", answer.object, answer.offset);
+}
+
+static int is_same(waylluqen_translation one, waylluqen_translation other)
+{
+    return one.refusal == other.refusal && one.place == other.place &&
+           one.mapped == other.mapped && one.object == other.object && one.offset == other.offset;
+}
+
+/* Answers 1 where the library's answer is not the expected one. The words may lie anywhere. */
+static int differs(const struct test_case *test, const uint64_t *words)
+{
+    for (int at_back = 0; at_back <= 1; at_back++) {
+        const uint64_t *table = lend(words, test->table_words, at_back);
+        if (table == NULL) {
+            printf("host/c: %s: mprotect failed\n", test->name);
+            return 1;
+        }
+        waylluqen_translation answer =
+            waylluqen_lookup(test->space, table, test->table_words, test->count, test->address);
+        if (!is_same(answer, test->expected)) {
+            printf("host/c: %s\n", test->name);
+            print_answer("expected", test->expected);
+            print_answer("answered", answer);
+            return 1;
+        }
+    }
+    return 0;
+}
+
+static int run_case(const struct test_case *test)
+{
+    /* What follows the written mappings is not 0, so that looking at it would be noticed. */
+    static uint64_t words[LONGEST_TABLE];
+    memset(words, 0xa5, sizeof words);
+    memcpy(words, test->table, sizeof test->table);
+    return differs(test, words);
+}
+
+static int run_full_case(const struct full_case *full)
+{
+    struct test_case test = {full->name, full->expected, WIDEST, full->address,
+                             FULL(MOST_MAPPINGS), {{0}}};
+    struct mapping table[MOST_MAPPINGS];
+    for (size_t place = 0; place < MOST_MAPPINGS; place++) {
+        table[place].address = place * PAGE;
+        table[place].size = PAGE;
+        table[place].object = place == full->bad_place ? 0 : place + 1;
+        table[place].offset = place * 2 * PAGE;
+    }
+    uint64_t words[MOST_MAPPINGS * MAPPING_WORDS];
+    memcpy(words, table, sizeof words);
+    return differs(&test, words);
+}
+
+int main(void)
+{
+    const size_t count = sizeof cases / sizeof cases[0];
+    const size_t full_count = sizeof full_cases / sizeof full_cases[0];
+    size_t failed = 0;
+
+    if (!prepare_memory()) {
+        printf("host/c: mmap failed\n");
+        return 1;
+    }
+    for (size_t i = 0; i < count; i++) {
+        failed += (size_t)run_case(&cases[i]);
+    }
+    for (size_t i = 0; i < full_count; i++) {
+        failed += (size_t)run_full_case(&full_cases[i]);
+    }
+    if (failed != 0) {
+        printf("host/c: %zu of %zu look-ups failed\n", failed, count + full_count);
+        return 1;
+    }
+    printf("host/c: %zu look-ups passed\n", count + full_count);
+    return 0;
+}

@@ -1,0 +1,308 @@
+//! The model's look-ups in tables that were worked out by hand.
+
+use waylluqen_model::{lookup, Refused, Space, Translation, PAGE};
+
+const LIMIT: u64 = 1 << 48;
+const LAST_PAGE: u64 = u64::MAX - PAGE + 1;
+
+/// Address, size, object, offset.
+type Words = [u64; 4];
+
+/// `[0x10_0000, 0x20_0000)` with `[0x14_0000, 0x18_0000)` reserved.
+const COMMON: Space = Space {
+    start: 0x10_0000,
+    size: 0x10_0000,
+    reserved_start: 0x14_0000,
+    reserved_size: 0x4_0000,
+};
+
+/// All that a space may have, and nothing reserved.
+const WIDEST: Space = Space {
+    start: 0,
+    size: LIMIT,
+    reserved_start: 0,
+    reserved_size: 0,
+};
+
+/// Two that touch each other, one on each side of the reservation, and the space's last page.
+const FIVE: [Words; 5] = [
+    [0x10_0000, 0x2000, 7, 0x3000],
+    [0x10_2000, 0x1000, 8, 0],
+    [0x13_f000, 0x1000, 0xffff_ffff, 0x1000],
+    [0x18_0000, 0x1000, 1, 0x5000],
+    [0x1f_f000, 0x1000, 9, LIMIT - PAGE],
+];
+
+type Answer = Result<Option<Translation>, Refused>;
+
+fn shows(object: u64, offset: u64) -> Answer {
+    Ok(Some(Translation { object, offset }))
+}
+
+const NOTHING: Answer = Ok(None);
+
+fn refused(number: u32) -> Answer {
+    Err(Refused { number, place: 0 })
+}
+
+fn bad_mapping(place: u64) -> Answer {
+    Err(Refused { number: 5, place })
+}
+
+/// The answer in a table that is full of these mappings.
+fn look(space: &Space, mappings: &[Words], address: u64) -> Answer {
+    lookup(space, &mappings.concat(), mappings.len() as u64, address)
+}
+
+/// The answer in the common space to a table of one mapping, at its address.
+fn alone(address: u64, size: u64, object: u64, offset: u64) -> Answer {
+    look(&COMMON, &[[address, size, object, offset]], address)
+}
+
+/// The answer in the common space to a table of two mappings of one object, at its start.
+fn pair(first: [u64; 2], second: [u64; 2]) -> Answer {
+    let mappings = [[first[0], first[1], 7, 0], [second[0], second[1], 7, 0]];
+    look(&COMMON, &mappings, 0x10_0000)
+}
+
+#[test]
+fn bytes_of_a_mapping() {
+    assert_eq!(look(&COMMON, &FIVE, 0x10_0000), shows(7, 0x3000));
+    assert_eq!(look(&COMMON, &FIVE, 0x10_0001), shows(7, 0x3001));
+    assert_eq!(look(&COMMON, &FIVE, 0x10_1fff), shows(7, 0x4fff));
+    assert_eq!(look(&COMMON, &FIVE, 0x1f_f000), shows(9, LIMIT - PAGE));
+    assert_eq!(look(&COMMON, &FIVE, 0x1f_ffff), shows(9, LIMIT - 1));
+}
+
+#[test]
+fn neighbours_that_touch() {
+    assert_eq!(look(&COMMON, &FIVE, 0x10_1fff), shows(7, 0x4fff));
+    assert_eq!(look(&COMMON, &FIVE, 0x10_2000), shows(8, 0));
+    assert_eq!(look(&COMMON, &FIVE, 0x10_2fff), shows(8, 0xfff));
+    assert_eq!(look(&COMMON, &FIVE, 0x10_3000), NOTHING);
+}
+
+#[test]
+fn beside_and_in_the_reservation() {
+    assert_eq!(look(&COMMON, &FIVE, 0x13_efff), NOTHING);
+    assert_eq!(look(&COMMON, &FIVE, 0x13_f000), shows(0xffff_ffff, 0x1000));
+    assert_eq!(look(&COMMON, &FIVE, 0x13_ffff), shows(0xffff_ffff, 0x1fff));
+    assert_eq!(look(&COMMON, &FIVE, 0x14_0000), NOTHING);
+    assert_eq!(look(&COMMON, &FIVE, 0x17_ffff), NOTHING);
+    assert_eq!(look(&COMMON, &FIVE, 0x18_0000), shows(1, 0x5000));
+}
+
+#[test]
+fn outside_the_space() {
+    assert_eq!(look(&COMMON, &FIVE, 0), NOTHING);
+    assert_eq!(look(&COMMON, &FIVE, 0xf_ffff), NOTHING);
+    assert_eq!(look(&COMMON, &FIVE, 0x20_0000), NOTHING);
+    assert_eq!(look(&COMMON, &FIVE, LIMIT), NOTHING);
+    // The lower 48 and 63 bits alone would be in the first mapping.
+    assert_eq!(look(&COMMON, &FIVE, LIMIT + 0x10_0000), NOTHING);
+    assert_eq!(look(&COMMON, &FIVE, (1 << 63) + 0x10_0000), NOTHING);
+    assert_eq!(look(&COMMON, &FIVE, u64::MAX), NOTHING);
+}
+
+#[test]
+fn the_widest_space() {
+    let whole = [[0, LIMIT, 7, 0]];
+    assert_eq!(look(&WIDEST, &whole, 0), shows(7, 0));
+    assert_eq!(look(&WIDEST, &whole, LIMIT - 1), shows(7, LIMIT - 1));
+    assert_eq!(look(&WIDEST, &whole, LIMIT), NOTHING);
+    assert_eq!(look(&WIDEST, &whole, u64::MAX), NOTHING);
+    assert_eq!(look(&WIDEST, &[[0, LIMIT + PAGE, 7, 0]], 0), bad_mapping(0));
+}
+
+#[test]
+fn spaces_that_break_their_rules() {
+    let one_below = Space {
+        start: 0xf_ffff,
+        ..COMMON
+    };
+    assert_eq!(look(&one_below, &FIVE, 0x10_0000), refused(1));
+    // The space comes before length, count and mappings.
+    assert_eq!(lookup(&one_below, &[], 1, 0), refused(1));
+    assert_eq!(lookup(&one_below, &[1; 7], u64::MAX, 0), refused(1));
+    assert_eq!(lookup(&one_below, &[1; 8], 2, 0), refused(1));
+}
+
+#[test]
+fn lengths() {
+    let zeros = [0; 3000];
+    let bad = [0, 1, 2, 3, 5, 6, 7, 9, 2046, 2047, 2049, 2050, 2052, 3000];
+    for bad in bad {
+        assert_eq!(lookup(&COMMON, &zeros[..bad], 0, 0), refused(2), "{bad}");
+        // The length comes before the count.
+        assert_eq!(lookup(&COMMON, &zeros[..bad], 3000, 0), refused(2), "{bad}");
+    }
+    for good in [4, 8, 12, 2044, 2048] {
+        assert_eq!(lookup(&COMMON, &zeros[..good], 0, 0), NOTHING, "{good}");
+    }
+}
+
+#[test]
+fn counts() {
+    let words = FIVE.concat();
+    let last = 0x1f_f000;
+    assert_eq!(lookup(&COMMON, &words, 5, last), shows(9, LIMIT - PAGE));
+    // Six, as many as there are words, and what 32 bits or four words each would make 5 of.
+    for count in [6, 20, (1 << 32) + 5, (1 << 62) + 5, u64::MAX] {
+        assert_eq!(lookup(&COMMON, &words, count, last), refused(4), "{count}");
+    }
+    // The count comes before the mappings.
+    assert_eq!(lookup(&COMMON, &[1; 8], 3, 0), refused(4));
+    assert_eq!(lookup(&COMMON, &[1; 8], 2, 0), bad_mapping(0));
+}
+
+#[test]
+fn words_behind_the_count() {
+    let words = FIVE.concat();
+    assert_eq!(lookup(&COMMON, &words, 4, 0x1f_f000), NOTHING);
+    assert_eq!(lookup(&COMMON, &words, 0, 0x10_0000), NOTHING);
+    let mut damaged = words;
+    damaged[4..].fill(u64::MAX);
+    assert_eq!(lookup(&COMMON, &damaged, 0, 0x10_0000), NOTHING);
+    assert_eq!(lookup(&COMMON, &damaged, 1, 0x10_0000), shows(7, 0x3000));
+    assert_eq!(lookup(&COMMON, &damaged, 2, 0x10_0000), bad_mapping(1));
+}
+
+#[test]
+fn multiples_of_a_page() {
+    assert_eq!(alone(0x10_0000, PAGE, 7, PAGE), shows(7, PAGE));
+    assert_eq!(alone(0x10_0001, PAGE, 7, 0), bad_mapping(0));
+    assert_eq!(alone(0x10_0800, PAGE, 7, 0), bad_mapping(0));
+    assert_eq!(alone(0x10_0000, PAGE + 1, 7, 0), bad_mapping(0));
+    assert_eq!(alone(0x10_0000, PAGE - 1, 7, 0), bad_mapping(0));
+    assert_eq!(alone(0x10_0000, 0, 7, 0), bad_mapping(0));
+    assert_eq!(alone(0x10_0000, PAGE, 7, 1), bad_mapping(0));
+    assert_eq!(alone(0x10_0000, PAGE, 7, PAGE - 1), bad_mapping(0));
+}
+
+#[test]
+fn objects() {
+    assert_eq!(alone(0x10_0000, PAGE, 0, 0), bad_mapping(0));
+    assert_eq!(alone(0x10_0000, PAGE, 1, 0), shows(1, 0));
+    let highest = 0xffff_ffff;
+    assert_eq!(alone(0x10_0000, PAGE, highest, 0), shows(highest, 0));
+    assert_eq!(alone(0x10_0000, PAGE, 1 << 32, 0), bad_mapping(0));
+    assert_eq!(alone(0x10_0000, PAGE, (1 << 32) + 7, 0), bad_mapping(0));
+    assert_eq!(alone(0x10_0000, PAGE, u64::MAX, 0), bad_mapping(0));
+}
+
+#[test]
+fn offsets() {
+    let highest = LIMIT - PAGE;
+    assert_eq!(alone(0x10_0000, PAGE, 7, highest), shows(7, highest));
+    assert_eq!(alone(0x10_0000, 2 * PAGE, 7, highest), bad_mapping(0));
+    assert_eq!(alone(0x10_0000, PAGE, 7, LIMIT), bad_mapping(0));
+    // The sums are 2^64 and above.
+    assert_eq!(alone(0x10_0000, PAGE, 7, LAST_PAGE), bad_mapping(0));
+    assert_eq!(alone(0x10_0000, 2 * PAGE, 7, LAST_PAGE), bad_mapping(0));
+}
+
+#[test]
+fn inside_the_space() {
+    assert_eq!(alone(0xf_f000, PAGE, 7, 0), bad_mapping(0));
+    assert_eq!(alone(0xf_f000, 2 * PAGE, 7, 0), bad_mapping(0));
+    assert_eq!(alone(0x1f_f000, PAGE, 7, 0), shows(7, 0));
+    assert_eq!(alone(0x1f_f000, 2 * PAGE, 7, 0), bad_mapping(0));
+    assert_eq!(alone(0x20_0000, PAGE, 7, 0), bad_mapping(0));
+    // The ends are 2^64 and above.
+    assert_eq!(alone(LAST_PAGE, PAGE, 7, 0), bad_mapping(0));
+    assert_eq!(alone(LAST_PAGE, 2 * PAGE, 7, 0), bad_mapping(0));
+    let wrapped = [[LAST_PAGE, 2 * PAGE, 7, 0]];
+    assert_eq!(look(&WIDEST, &wrapped, 0), bad_mapping(0));
+    // Both sums wrap, to the end of the first page and to 0.
+    let both = [[2 * PAGE, LAST_PAGE, 7, PAGE]];
+    assert_eq!(look(&WIDEST, &both, 0), bad_mapping(0));
+}
+
+#[test]
+fn off_the_reservation() {
+    assert_eq!(alone(0x13_f000, PAGE, 7, 0), shows(7, 0));
+    assert_eq!(alone(0x13_f000, 2 * PAGE, 7, 0), bad_mapping(0));
+    assert_eq!(alone(0x14_0000, PAGE, 7, 0), bad_mapping(0));
+    assert_eq!(alone(0x15_0000, PAGE, 7, 0), bad_mapping(0));
+    assert_eq!(alone(0x17_f000, PAGE, 7, 0), bad_mapping(0));
+    assert_eq!(alone(0x17_f000, 2 * PAGE, 7, 0), bad_mapping(0));
+    assert_eq!(alone(0x18_0000, PAGE, 7, 0), shows(7, 0));
+    assert_eq!(alone(0x10_0000, 0x10_0000, 7, 0), bad_mapping(0));
+    let free = Space {
+        reserved_start: 0,
+        reserved_size: 0,
+        ..COMMON
+    };
+    let inner = [[0x15_0000, PAGE, 7, 0]];
+    assert_eq!(look(&free, &inner, 0x15_0000), shows(7, 0));
+    let all = Space {
+        reserved_start: 0x10_0000,
+        reserved_size: 0x10_0000,
+        ..COMMON
+    };
+    assert_eq!(look(&all, &inner, 0x15_0000), bad_mapping(0));
+    assert_eq!(lookup(&all, &[0; 4], 0, 0x15_0000), NOTHING);
+}
+
+#[test]
+fn order() {
+    let here = shows(7, 0);
+    // Apart, touching; then sharing a page, equal.
+    assert_eq!(pair([0x10_0000, 0x2000], [0x10_3000, 0x1000]), here);
+    assert_eq!(pair([0x10_0000, 0x2000], [0x10_2000, 0x1000]), here);
+    let bad = bad_mapping(1);
+    assert_eq!(pair([0x10_0000, 0x2000], [0x10_1000, 0x2000]), bad);
+    assert_eq!(pair([0x10_0000, 0x2000], [0x10_0000, 0x2000]), bad);
+    // One inside the other, either way round.
+    assert_eq!(pair([0x10_0000, 0x3000], [0x10_1000, 0x1000]), bad);
+    assert_eq!(pair([0x10_1000, 0x1000], [0x10_0000, 0x3000]), bad);
+    // The later one first: touching, and apart.
+    assert_eq!(pair([0x10_1000, 0x1000], [0x10_0000, 0x1000]), bad);
+    assert_eq!(pair([0x10_2000, 0x1000], [0x10_0000, 0x1000]), bad);
+}
+
+#[test]
+fn lowest_place() {
+    for place in 0..5 {
+        let mut table = FIVE;
+        table[place][2] = 0;
+        assert_eq!(look(&COMMON, &table, 0x10_0000), bad_mapping(place as u64));
+        // Another bad one behind it does not matter.
+        table[4][3] = 1;
+        assert_eq!(look(&COMMON, &table, 0x10_0000), bad_mapping(place as u64));
+    }
+    // Of two in the wrong order it is the later place.
+    let mut swapped = FIVE;
+    swapped.swap(1, 3);
+    assert_eq!(look(&COMMON, &swapped, 0x10_0000), bad_mapping(2));
+    // All in the wrong order: the second is the first that precedes its forerunner.
+    let [first, second, third, fourth, last] = FIVE;
+    let turned = [last, fourth, third, second, first];
+    assert_eq!(look(&COMMON, &turned, 0x10_0000), bad_mapping(1));
+}
+
+#[test]
+fn a_full_table() {
+    // 512 pages without a gap; object p + 1 at place p.
+    let page = |place: u64| [place * PAGE, PAGE, place + 1, place * 2 * PAGE];
+    let mut table: Vec<Words> = (0..512).map(page).collect();
+    assert_eq!(look(&WIDEST, &table, 0), shows(1, 0));
+    assert_eq!(look(&WIDEST, &table, 0xfff), shows(1, 0xfff));
+    assert_eq!(look(&WIDEST, &table, 0x10_0005), shows(257, 0x20_0005));
+    assert_eq!(look(&WIDEST, &table, 0x1f_ffff), shows(512, 0x3f_efff));
+    assert_eq!(look(&WIDEST, &table, 0x20_0000), NOTHING);
+    table.push([0x20_0000, PAGE, 513, 0]);
+    assert_eq!(look(&WIDEST, &table, 0), refused(2));
+    table.pop();
+    table[511][2] = 0;
+    assert_eq!(look(&WIDEST, &table, 0), bad_mapping(511));
+    table[0][2] = 0;
+    assert_eq!(look(&WIDEST, &table, 0), bad_mapping(0));
+}
+
+#[test]
+fn an_empty_table() {
+    assert_eq!(lookup(&COMMON, &[0; 4], 0, 0x10_0000), NOTHING);
+    assert_eq!(lookup(&COMMON, &[u64::MAX; 2048], 0, 0x10_0000), NOTHING);
+    assert_eq!(lookup(&COMMON, &[0; 4], 1, 0x10_0000), bad_mapping(0));
+}

@@ -1,0 +1,536 @@
+//! Compares the library's look-up to the model's, input by input.
+
+mod common;
+mod tables;
+
+use common::{
+    disturb_space, edge_spaces, edges, given, good_space, other64, space_of, HALF, LIMIT,
+};
+use std::hint::black_box;
+use tables::{any_address, boundaries, fill_space, good_table, Good, DAMAGES};
+use waylluqen::ffi;
+use waylluqen_model::random::Random;
+use waylluqen_model::{lookup, Refused, Space, Translation, MAPPING_WORDS, MOST_MAPPINGS, PAGE};
+
+const MOST_WORDS: usize = MOST_MAPPINGS * MAPPING_WORDS;
+const LONGEST_TABLE: usize = 2 * MOST_WORDS;
+
+/// How many words on each side of a table vary.
+const BESIDE: usize = 8;
+
+type Answer = Result<Option<Translation>, Refused>;
+
+/// A table as a part of longer memory, whose other words vary from call to call.
+struct Lent {
+    memory: Vec<u64>,
+    start: usize,
+    words: usize,
+}
+
+impl Lent {
+    fn new() -> Lent {
+        Lent {
+            memory: Vec::with_capacity(LONGEST_TABLE + 3 * BESIDE),
+            start: 0,
+            words: 0,
+        }
+    }
+
+    /// Puts the table anywhere, aligned as a word is and no better.
+    fn put(&mut self, random: &mut Random, table: &[u64]) {
+        self.start = BESIDE + random.below(BESIDE as u64) as usize;
+        self.words = table.len();
+        self.memory.clear();
+        self.memory.resize(self.start, 0);
+        self.memory.extend_from_slice(table);
+        self.memory.resize(self.memory.len() + BESIDE, 0);
+    }
+
+    fn table(&self) -> &[u64] {
+        &self.memory[self.start..self.start + self.words]
+    }
+
+    /// Other words around the table and behind its first `count` mappings: any, zeros, or a
+    /// mapping that shows the address.
+    fn stir(&mut self, random: &mut Random, count: u64, address: u64) {
+        let first = address / PAGE * PAGE;
+        let choice = random.below(3);
+        let mut other = |at: usize| match choice {
+            0 => random.next_u64(),
+            1 => 0,
+            _ => [first, PAGE, 9, 0][at % MAPPING_WORDS],
+        };
+        let start = self.start;
+        let end = start + self.words;
+        let used = count.saturating_mul(MAPPING_WORDS as u64);
+        let behind = start + used.min(self.words as u64) as usize;
+        for at in start - BESIDE..start {
+            self.memory[at] = other(at + BESIDE - start);
+        }
+        for at in behind..end.min(behind + BESIDE) {
+            self.memory[at] = other(at - behind);
+        }
+        for at in end..end + BESIDE {
+            self.memory[at] = other(at - end);
+        }
+    }
+
+    /// What `call` answers, which must leave all the memory as it is.
+    fn lend<T>(&mut self, call: impl FnOnce(&[u64]) -> T) -> T {
+        let before = self.memory.clone();
+        let answer = call(self.table());
+        // Without this the compiler may take it for granted that lent words are unchanged.
+        let after = black_box(&mut self.memory);
+        assert_eq!(*after, before, "a lent word was changed");
+        answer
+    }
+}
+
+/// The five words in which the library gives this answer.
+fn in_words(answer: Answer) -> ffi::Translation {
+    let mut words = ffi::Translation {
+        refusal: 0,
+        place: 0,
+        mapped: 0,
+        object: 0,
+        offset: 0,
+    };
+    match answer {
+        Err(refused) => {
+            words.refusal = u64::from(refused.number);
+            words.place = refused.place;
+        }
+        Ok(Some(shown)) => {
+            words.mapped = 1;
+            words.object = shown.object;
+            words.offset = shown.offset;
+        }
+        Ok(None) => {}
+    }
+    words
+}
+
+/// The same answer as the Rust interface gives it.
+fn in_rust(answer: Answer) -> Result<Option<waylluqen::Translation>, waylluqen::Refused> {
+    let shown = |shown: Translation| waylluqen::Translation {
+        object: shown.object,
+        offset: shown.offset,
+    };
+    let refused = |refused: Refused| waylluqen::Refused {
+        number: refused.number,
+        place: refused.place,
+    };
+    answer.map(|found| found.map(shown)).map_err(refused)
+}
+
+/// Compares, and counts how often each answer came.
+struct Tally {
+    random: Random,
+    lent: Lent,
+    comparisons: u64,
+    mapped: u64,
+    unmapped: u64,
+    /// By number.
+    refused: [u64; 6],
+    /// Bad mappings that were the first, the last, or between.
+    first: u64,
+    last: u64,
+    between: u64,
+}
+
+impl Tally {
+    fn new(seed: u64) -> Tally {
+        Tally {
+            random: Random::new(seed),
+            lent: Lent::new(),
+            comparisons: 0,
+            mapped: 0,
+            unmapped: 0,
+            refused: [0; 6],
+            first: 0,
+            last: 0,
+            between: 0,
+        }
+    }
+
+    /// Calls the library twice: in words and by the Rust interface, with other words around.
+    fn compare(&mut self, space: &Space, table: &[u64], count: u64, address: u64) -> Answer {
+        let model = lookup(space, table, count, address);
+        let library = given(space);
+        self.lent.put(&mut self.random, table);
+        self.lent.stir(&mut self.random, count, address);
+        let words = self.lent.lend(|lent| {
+            // SAFETY: the pointer and the length are those of a slice.
+            unsafe { ffi::waylluqen_lookup(library, lent.as_ptr(), lent.len(), count, address) }
+        });
+        self.lent.stir(&mut self.random, count, address);
+        let rust = self
+            .lent
+            .lend(|lent| waylluqen::lookup(library, lent, count, address));
+        if words != in_words(model) || rust != in_rust(model) {
+            let input = format!("{space:#x?}\ncount {count}, address {address:#x}");
+            report_difference(&input, table, &format!("{words:?}, {rust:?}"), model);
+        }
+        self.note(model, count);
+        model
+    }
+
+    fn note(&mut self, answer: Answer, count: u64) {
+        self.comparisons += 1;
+        match answer {
+            Ok(Some(_)) => self.mapped += 1,
+            Ok(None) => self.unmapped += 1,
+            Err(refused) => self.refused[refused.number as usize] += 1,
+        }
+        if let Err(Refused { number: 5, place }) = answer {
+            match place {
+                0 => self.first += 1,
+                place if place + 1 == count => self.last += 1,
+                _ => self.between += 1,
+            }
+        }
+    }
+
+    /// Every answer came at least `least` times.
+    fn assert_answers(&self, least: u64) {
+        for number in [1, 2, 4, 5] {
+            let times = self.refused[number];
+            assert!(times >= least, "refusal {number} came only {times} times");
+        }
+        for times in [self.mapped, self.unmapped] {
+            assert!(times >= least, "an answer came only {times} times");
+        }
+        for times in [self.first, self.between, self.last] {
+            assert!(times >= least, "a kind of place came only {times} times");
+        }
+    }
+
+    /// Seen with `cargo test -- --nocapture`.
+    fn print(&self, test: &str) {
+        let [_, space, length, _, count, mapping] = self.refused;
+        println!(
+            "{test}: {} comparisons, mapped {}, unmapped {}, refused 1: {space}, 2: {length}, \
+             4: {count}, 5: {mapping} (first {}, between {}, last {})",
+            self.comparisons, self.mapped, self.unmapped, self.first, self.between, self.last
+        );
+    }
+}
+
+#[cold]
+fn report_difference(input: &str, table: &[u64], library: &str, model: Answer) -> ! {
+    let mappings: Vec<String> = table
+        .chunks(MAPPING_WORDS)
+        .map(|words| format!("{words:x?}"))
+        .collect();
+    panic!(
+        "library {library}\nmodel {model:?}\n{input}\ntable, {} words:\n{}",
+        table.len(),
+        mappings.join("\n")
+    );
+}
+
+/// Another count: about the number of mappings, the capacity and the words, or any.
+fn other_count(random: &mut Random, mappings: u64, words: u64) -> u64 {
+    let capacity = words / MAPPING_WORDS as u64;
+    let near = random.pick(&[0, mappings, capacity, words, 1 << 32, 1 << 62]);
+    match random.below(8) {
+        0 => random.next_u64(),
+        1 => random.below(capacity + 1),
+        // What multiplied by four is right again in 64 bits.
+        2 => mappings + (1 << 62) * random.below(4),
+        3 => u64::MAX,
+        4 => near.wrapping_sub(1),
+        5 => near + 1,
+        _ => near,
+    }
+}
+
+/// Another length: short, beside the present one, about the longest, or longer.
+fn other_length(random: &mut Random, present: usize) -> usize {
+    match random.below(6) {
+        0 => random.below(9) as usize,
+        1 => present + 1 + random.below(8) as usize,
+        2 => present.saturating_sub(1 + random.below(8) as usize),
+        3 => MOST_WORDS - 8 + random.below(17) as usize,
+        4 => MOST_WORDS + MAPPING_WORDS,
+        _ => random.below(LONGEST_TABLE as u64) as usize,
+    }
+}
+
+/// Damages one word or mapping, anywhere in the table.
+fn damage(random: &mut Random, good: &Good, words: &mut [u64]) {
+    let mappings = good.mappings.len();
+    let place = match random.below(4) {
+        0 => 0,
+        1 => mappings - 1,
+        _ => random.below(mappings as u64) as usize,
+    };
+    let at = place * MAPPING_WORDS + random.below(MAPPING_WORDS as u64) as usize;
+    let (_, damage) = random.pick(&DAMAGES);
+    damage(
+        random,
+        &good.space,
+        &mut words[..mappings * MAPPING_WORDS],
+        at,
+    );
+}
+
+#[test]
+fn good_tables_and_those_near_them() {
+    const TABLES: u64 = 25_000;
+    const CALLS_EACH: u64 = 40;
+    let mut random = Random::new(11);
+    let mut tally = Tally::new(12);
+    for _ in 0..TABLES {
+        let good = good_table(&mut random);
+        let mappings = good.mappings.len();
+        let spare = random.up_to((MOST_MAPPINGS - mappings) as u64) as usize;
+        let words = good.words(&mut random, spare);
+        for _ in 0..CALLS_EACH {
+            let mut space = good.space;
+            let mut table = words.clone();
+            let mut count = mappings as u64;
+            for _ in 0..random.below(3) {
+                damage(&mut random, &good, &mut table);
+            }
+            if random.once_in(16) {
+                disturb_space(&mut random, &mut space);
+            }
+            if random.once_in(16) {
+                let length = other_length(&mut random, table.len());
+                table.resize_with(length, || random.next_u64());
+            }
+            if random.once_in(16) {
+                count = other_count(&mut random, count, table.len() as u64);
+            }
+            let address = any_address(&mut random, &good);
+            tally.compare(&space, &table, count, address).ok();
+        }
+    }
+    tally.print("good tables and those near them");
+    tally.assert_answers(1000);
+    assert!(tally.comparisons >= 1_000_000);
+}
+
+/// Spaces with and without a reservation, at both ends of all that there is.
+fn plain_spaces() -> [Space; 6] {
+    [
+        [0, LIMIT, 0, 0],
+        [0, LIMIT, 1 << 32, 1 << 32],
+        [0, 4096 * PAGE, 0, PAGE],
+        [LIMIT - 2048 * PAGE, 2048 * PAGE, LIMIT - PAGE, PAGE],
+        [16 * PAGE, 600 * PAGE, 300 * PAGE, PAGE],
+        [16 * PAGE, 512 * PAGE, 0, 0],
+    ]
+    .map(space_of)
+}
+
+#[test]
+fn every_boundary_of_good_tables() {
+    let mut random = Random::new(21);
+    let mut tally = Tally::new(22);
+    for space in plain_spaces() {
+        for most in [1, 2, 3, 17, 100, 512, 512] {
+            let good = fill_space(&mut random, space, most);
+            assert_eq!(good.mappings.len() as u64, most);
+            let table = good.words(&mut random, 0);
+            for address in boundaries(&good) {
+                tally
+                    .compare(&space, &table, most, address)
+                    .expect("a good table");
+            }
+        }
+    }
+    tally.print("every boundary of good tables");
+    assert!(tally.mapped >= 1000 && tally.unmapped >= 1000);
+}
+
+#[test]
+fn every_word_damaged_in_every_way() {
+    let mut random = Random::new(31);
+    let mut tally = Tally::new(32);
+    let mut refused = [0; DAMAGES.len()];
+    for space in plain_spaces() {
+        for most in [1, 2, 3, 17, 100, 512] {
+            let good = fill_space(&mut random, space, most);
+            assert_eq!(good.mappings.len() as u64, most);
+            let spare = (MOST_MAPPINGS as u64 - most).min(3) as usize;
+            let words = good.words(&mut random, spare);
+            let used = good.mappings.len() * MAPPING_WORDS;
+            for at in 0..used {
+                for ((_, damage), refused) in DAMAGES.iter().zip(&mut refused) {
+                    let mut table = words.clone();
+                    damage(&mut random, &space, &mut table[..used], at);
+                    let address = any_address(&mut random, &good);
+                    let answer = tally.compare(&space, &table, most, address);
+                    *refused += u64::from(answer.is_err());
+                }
+            }
+        }
+    }
+    tally.print("every word damaged in every way");
+    for ((name, _), times) in DAMAGES.iter().zip(refused) {
+        println!("  {name}: refused {times}");
+        assert!(times >= 1000, "{name} was refused only {times} times");
+    }
+}
+
+#[test]
+fn lengths_and_counts() {
+    let mut random = Random::new(41);
+    let mut tally = Tally::new(42);
+    for space in plain_spaces() {
+        let good = fill_space(&mut random, space, MOST_MAPPINGS as u64);
+        let words = good.words(&mut random, MOST_MAPPINGS);
+        for length in (0..=MOST_WORDS + 20).chain([2100, 3000, 3001, LONGEST_TABLE]) {
+            let capacity = (length / MAPPING_WORDS) as u64;
+            for count in edges(&[0, capacity, length as u64, 1 << 32, 1 << 62, HALF]) {
+                let address = any_address(&mut random, &good);
+                tally.compare(&space, &words[..length], count, address).ok();
+            }
+        }
+    }
+    tally.print("lengths and counts");
+    assert!(tally.refused[2] >= 1000 && tally.refused[4] >= 1000);
+    assert!(tally.mapped >= 1000 && tally.unmapped >= 1000);
+    // All the words that an accepted length leaves are good mappings.
+    assert_eq!(tally.refused[1] + tally.refused[5], 0);
+    // The pointer of a slice that never had memory.
+    let [space, ..] = plain_spaces();
+    let refused = waylluqen::lookup(given(&space), &[], 0, 0);
+    assert_eq!(refused, in_rust(lookup(&space, &[], 0, 0)));
+}
+
+#[test]
+fn spaces_at_edges() {
+    let mut random = Random::new(51);
+    let mut tally = Tally::new(52);
+    let space = space_of([4 * PAGE, 4 * PAGE, 6 * PAGE, PAGE]);
+    let good = fill_space(&mut random, space, 2);
+    let table = good.words(&mut random, 1);
+    for space in edge_spaces() {
+        let address = any_address(&mut random, &good);
+        tally.compare(&space, &table, 2, address).ok();
+    }
+    tally.print("spaces at edges");
+    assert!(tally.refused[1] >= 1000 && tally.refused[5] >= 100);
+    assert!(tally.mapped > 0 && tally.unmapped > 0);
+}
+
+#[test]
+fn any_words() {
+    const INPUTS: u64 = 100_000;
+    let mut random = Random::new(61);
+    let mut tally = Tally::new(62);
+    for _ in 0..INPUTS {
+        let space = match random.below(8) {
+            0 => Space {
+                start: random.next_u64(),
+                size: random.next_u64(),
+                reserved_start: random.next_u64(),
+                reserved_size: random.next_u64(),
+            },
+            _ => good_space(&mut random),
+        };
+        let length = match random.below(8) {
+            0 => random.below(40),
+            1 => random.below(LONGEST_TABLE as u64),
+            _ => MAPPING_WORDS as u64 * (1 + random.below(8)),
+        };
+        // Random numbers alone would almost never be multiples of a page.
+        let table: Vec<u64> = (0..length)
+            .map(|_| match random.below(4) {
+                0 => random.next_u64() >> random.below(64),
+                1 => random.below(64) * PAGE,
+                2 => space.start.wrapping_add(random.below(64) * PAGE),
+                _ => other64(&mut random, &space, 0),
+            })
+            .collect();
+        let count = other_count(&mut random, 1, length);
+        let address = other64(&mut random, &space, space.start);
+        tally.compare(&space, &table, count, address).ok();
+    }
+    tally.print("any words");
+    for number in [1, 2, 4, 5] {
+        assert!(tally.refused[number] >= 1000, "{number} came too rarely");
+    }
+    assert!(tally.unmapped >= 1000);
+}
+
+/// Spaces of a few pages, so that every sum is near every boundary.
+fn small_spaces() -> [Space; 4] {
+    [
+        [4 * PAGE, 8 * PAGE, 8 * PAGE, 2 * PAGE],
+        [4 * PAGE, 8 * PAGE, 0, 0],
+        [0, 8 * PAGE, 0, 2 * PAGE],
+        [LIMIT - 8 * PAGE, 8 * PAGE, LIMIT - 2 * PAGE, 2 * PAGE],
+    ]
+    .map(space_of)
+}
+
+/// Every address, size, object and offset at an edge, together.
+#[test]
+fn one_mapping_at_edges() {
+    let mut tally = Tally::new(71);
+    for space in small_spaces() {
+        let end = space.start + space.size;
+        let reserved_end = space.reserved_start + space.reserved_size;
+        let addresses = edges(&[
+            0,
+            space.start,
+            end,
+            space.reserved_start,
+            reserved_end,
+            HALF,
+        ]);
+        let sizes = edges(&[0, 2 * PAGE, space.size, LIMIT, HALF]);
+        let objects = [
+            0,
+            1,
+            7,
+            (1 << 32) - 1,
+            1 << 32,
+            (1 << 32) + 1,
+            HALF,
+            u64::MAX,
+        ];
+        let offsets = edges(&[0, LIMIT - 2 * PAGE, LIMIT - space.size, LIMIT]);
+        for &address in &addresses {
+            for &size in &sizes {
+                for &object in &objects {
+                    for &offset in &offsets {
+                        let table = [address, size, object, offset];
+                        tally.compare(&space, &table, 1, address).ok();
+                    }
+                }
+            }
+        }
+    }
+    tally.print("one mapping at edges");
+    assert!(tally.mapped >= 100 && tally.refused[5] >= 1000);
+}
+
+/// Two ranges in a space of a few pages, every one beside every other one.
+#[test]
+fn two_mappings_in_a_few_pages() {
+    const PAGES: u64 = 14;
+    let mut tally = Tally::new(81);
+    for space in small_spaces() {
+        let from = space.start.saturating_sub(PAGE);
+        let ranges: Vec<[u64; 2]> = (0..PAGES)
+            .flat_map(|first| (0..=PAGES - first).map(move |pages| [first, pages]))
+            .map(|[first, pages]| [from + first * PAGE, pages * PAGE])
+            .collect();
+        for one in &ranges {
+            for other in &ranges {
+                let table = [one[0], one[1], 7, 0, other[0], other[1], 8, PAGE];
+                for address in [other[0], other[0] + other[1]] {
+                    tally.compare(&space, &table, 2, address).ok();
+                }
+            }
+        }
+    }
+    tally.print("two mappings in a few pages");
+    assert!(tally.mapped >= 100 && tally.unmapped >= 100);
+    assert!(tally.first >= 1000 && tally.last >= 1000);
+}
