@@ -1,1 +1,3 @@
+pub mod Binds
+pub mod Checked
 pub mod Lookups

@@ -263,7 +263,7 @@ left-count r from (m ∷ ms) run z = go (hits r (m ∷ ms)) (hits-first r m ms) 
       length-append (rests (operationOf r m)) (flatMap rests (map (operationOf r) (hits r ms))),
     )
 
-prepend-most : (m : Mapping) (ms : List Mapping) → length (prepend m ms) ≤ suc (length ms)
+pub prepend-most : (m : Mapping) (ms : List Mapping) → length (prepend m ms) ≤ suc (length ms)
 prepend-most m ms = go (m .size)
   where
     go : (n : ℕ) → length (sized n m ms) ≤ suc (length ms)

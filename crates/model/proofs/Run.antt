@@ -16,7 +16,7 @@ abbrev pub Run : ℕ → List Mapping → Type 0
 Run from [] = Unit {0}
 Run from (m ∷ ms) = (from ≤ m .address) × (0 < m .size) × Run (end m) ms
 
-run-from : (a from : ℕ) (ms : List Mapping) → Run from ms → a ≤ from → Each (λ m. (a ≤ m .address) × (0 < m .size)) ms
+pub run-from : (a from : ℕ) (ms : List Mapping) → Run from ms → a ≤ from → Each (λ m. (a ≤ m .address) × (0 < m .size)) ms
 run-from a from [] h k = tt
 run-from a from (m ∷ ms) h k = (omega arith, run-from a (end m) ms (h .2) (omega arith))
 

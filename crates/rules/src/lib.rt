@@ -6,7 +6,7 @@ use model::Request;
 use model::Space;
 use model::Verdict;
 ghost use mathlib.Core.Path.{_≡_};
-ghost use Prim.Native.Nat.{_+_, _≤_, max};
+ghost use Prim.Native.Nat.{_+_, _≤_, min, max};
 ghost use lib.Dec.{leb};
 ghost use Rattle.model.specs.Rows.{all, verdict};
 ghost use Rattle.model.specs.Rules.{limit, aligned, apart, spaceTests, formRows, requestRows, alignmentRow, insideRow, objectRow, offsetRow};
@@ -57,6 +57,12 @@ pub fn greater(a: u64, b: u64) -> u64
     ensures { λ x. ⌜ x ≡ max a b ⌝ }
 {
     if a <= b { b } else { a }
+}
+
+pub fn lesser(a: u64, b: u64) -> u64
+    ensures { λ x. ⌜ x ≡ min a b ⌝ }
+{
+    if a <= b { a } else { b }
 }
 
 // [a, a + n) and [c, c + m) share no byte: one of them ends at or before the greater start.

@@ -1,3 +1,5 @@
+pub mod Between
+pub mod First
 pub mod Parts
 pub mod Places
 pub mod Search

@@ -1,14 +1,15 @@
 -- A table as it is lent, and its mappings by their places.
 -- Assumes nothing.
 use mathlib.Core.Path.{_≡_}
+use mathlib.Core.Bool.{Bool}
 use mathlib.Core.List.{List, [], _∷_}
 use Prim.Native.Nat.{ℕ, suc, _+_, _*_, _≤_}
-use lib.Dec.{leb}
-use lib.ListN.{length, getD}
+use lib.Dec.{ltb}
+use lib.ListN.{length, getD, drop}
 use Rattle.model.specs.declared.Mapping.{Mapping}
 use Rattle.model.specs.declared.Space.{Space}
 use Rattle.model.specs.Rows.{choose, Row}
-use Rattle.model.specs.Rules.{limit}
+use Rattle.model.specs.Rules.{limit, end}
 use Rattle.model.specs.Table.{Table, mappingsIn, badPlace, lengthRow, countRow, mappingsRow}
 
 -- a table in a lent slice of words
@@ -26,10 +27,21 @@ ownRows s t = lengthRow t ∷ contentRows s t
 unfoldable pub mappingAt : List ℕ → ℕ → Mapping
 mappingAt ws i = record { address = getD ws (4 * i) 0; size = getD ws (4 * i + 1) 0; object = getD ws (4 * i + 2) 0; offset = getD ws (4 * i + 3) 0 }
 
--- the place of the first mapping that starts behind x, or the number of mappings if none does
-unfoldable pub firstAbove : ℕ → List Mapping → ℕ
-firstAbove x [] = 0
-firstAbove x (m ∷ ms) = choose (leb (m .address) x) (suc (firstAbove x ms)) 0
+-- the mappings from place lo up to hi
+unfoldable pub between : List ℕ → ℕ → ℕ → List Mapping
+between ws lo hi = drop lo (mappingsIn hi ws)
+
+-- the place of the first mapping that passes a test, or the number of mappings if none does
+unfoldable pub firstWhere : (Mapping → Bool) → List Mapping → ℕ
+firstWhere p [] = 0
+firstWhere p (m ∷ ms) = choose (p m) 0 (suc (firstWhere p ms))
+
+-- it starts, or ends, behind the byte address x
+abbrev pub startsBehind : ℕ → Mapping → Bool
+startsBehind x m = ltb x (m .address)
+
+abbrev pub endsBehind : ℕ → Mapping → Bool
+endsBehind x m = ltb x (end m)
 
 -- a table that passed its check: its mappings keep their rules in some space
 pub record Valid (ws : List ℕ) (count : ℕ) : Type 0 where

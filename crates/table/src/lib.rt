@@ -6,17 +6,17 @@ use model::Space;
 use model::Verdict;
 ghost use mathlib.Core.Path.{_≡_};
 ghost use mathlib.Core.Bool.{true};
-ghost use mathlib.Core.List.{[], _∷_, flatMap};
+ghost use mathlib.Core.List.{[], _∷_, _++_, flatMap};
 ghost use Prim.Native.Nat.{_+_, _*_, _≤_};
 ghost use lib.ListN.{length, drop};
 ghost use Rattle.model.specs.Rows.{all, verdict};
 ghost use Rattle.model.specs.Rules.{limit, spaceTests};
 ghost use Rattle.model.specs.Table.{mappingsIn, wordsOf, written, badPlace, lengthRow};
-ghost use Rattle.model.specs.Cut.{translate};
+ghost use Rattle.model.specs.Cut.{prepend, translate};
 ghost use Rattle.model.specs.Calls.{verdictReply};
 ghost use Rattle.rules.specs.Part.{upTo};
 ghost use Rattle.words.specs.Words.{stored};
-ghost use Rattle.table.specs.Places.{lent, contentRows, ownRows, mappingAt, firstAbove, Valid};
+ghost use Rattle.table.specs.Places.{lent, contentRows, ownRows, mappingAt, firstWhere, startsBehind, endsBehind, Valid};
 ghost use Rattle.table.specs.Splice.{mappingsOf, spliced, Splice};
 
 // Document 01: a table has room for 1 to so many mappings.
@@ -45,7 +45,7 @@ pub fn read_mapping(t: &[u64], i: usize) -> Mapping
 }
 
 // Writes a mapping at place `i`.
-pub fn write_mapping(t: &mut [u64], i: usize, m: Mapping)
+fn write_mapping(t: &mut [u64], i: usize, m: Mapping)
     requires { ⌜ 4 * i + 4 ≤ length (now t) ⌝ }
     ensures { λ _. ⌜ now (t .exit) ≡ stored (now (t .entry)) (4 * i) (wordsOf m) ⌝ }
 {
@@ -116,15 +116,31 @@ pub fn table_verdict(s: Space, t: &[u64], count: usize) -> Verdict
     contents_verdict(s, t, count)
 }
 
-// The place of the first mapping that starts behind the byte address `x`; `count` where none does.
-fn first_above(t: &[u64], count: usize, x: u64) -> usize
-    requires { ⌜ 4 * count ≤ length (now t) ⌝ }
-    ensures { λ i. ⌜ i ≡ firstAbove x (mappingsIn count (now (t .entry))) ⌝ }
+// The place of the first mapping from place `from` on that starts behind the byte address `x`; `count` where none does.
+pub fn first_starting_behind(t: &[u64], from: usize, count: usize, x: u64) -> usize
+    requires { ⌜ (from ≤ count) × (4 * count ≤ length (now t)) ⌝ }
+    ensures { λ i. ⌜ i ≡ from + firstWhere (startsBehind x) (drop from (mappingsIn count (now (t .entry)))) ⌝ }
+{
+    let mut i = from;
+    while i < count {
+        let m = read_mapping(t, i);
+        if x < m.address {
+            return i;
+        }
+        i += 1;
+    }
+    i
+}
+
+// The place of the first mapping that ends behind the byte address `x`; `count` where none does.
+pub fn first_ending_behind(t: &[u64], count: usize, x: u64) -> usize
+    requires { ⌜ Valid (now t) count ⌝ }
+    ensures { λ i. ⌜ i ≡ firstWhere (endsBehind x) (mappingsIn count (now (t .entry))) ⌝ }
 {
     let mut i: usize = 0;
     while i < count {
         let m = read_mapping(t, i);
-        if x < m.address {
+        if x < m.address + m.size {
             return i;
         }
         i += 1;
@@ -151,15 +167,40 @@ pub fn translate(t: &[u64], count: usize, x: u64) -> Shown
     requires { ⌜ Valid (now t) count ⌝ }
     ensures { λ r. ⌜ r ≡ translate (mappingsIn count (now (t .entry))) x ⌝ }
 {
-    let above = first_above(t, count, x);
+    let above = first_starting_behind(t, 0, count, x);
     if above == 0 {
         return Shown::Nothing;
     }
     shown_by(read_mapping(t, above - 1), x)
 }
 
+// One mapping more behind at most two.
+pub fn with(new: Replacement, m: Mapping) -> Replacement
+    requires { ⌜ length (mappingsOf new) ≤ 2 ⌝ }
+    ensures { λ r. ⌜ mappingsOf r ≡ mappingsOf new ++ (m ∷ []) ⌝ }
+{
+    match new {
+        Replacement::Empty => Replacement::One(m),
+        Replacement::One(a) => Replacement::Two(a, m),
+        Replacement::Two(a, b) => Replacement::Three(a, b, m),
+        // Not reached: at most two come in.
+        Replacement::Three(a, b, c) => Replacement::Three(a, b, c),
+    }
+}
+
+// One part of a mapping more, unless it is empty.
+pub fn with_part(new: Replacement, m: Mapping) -> Replacement
+    requires { ⌜ length (mappingsOf new) ≤ 2 ⌝ }
+    ensures { λ r. ⌜ mappingsOf r ≡ mappingsOf new ++ prepend m [] ⌝ }
+{
+    if m.size == 0 {
+        return new;
+    }
+    with(new, m)
+}
+
 // How many mappings take the place.
-fn replacement_length(new: Replacement) -> usize
+pub fn replacement_length(new: Replacement) -> usize
     ensures { λ n. ⌜ (n ≡ length (mappingsOf new)) × (n ≤ 3) ⌝ }
 {
     match new {

@@ -1,4 +1,6 @@
 // The C boundary: what a C or Rust driver links. host/include/waylluqen.h declares it.
+use bind::Numbers;
+use model::Answer;
 use model::Decoded;
 use model::Found;
 use model::Range;
@@ -11,8 +13,10 @@ ghost use mathlib.Core.Path.{_≡_};
 ghost use mathlib.Core.List.{_∷_};
 ghost use Rattle.model.specs.Rows.{verdict};
 ghost use Rattle.model.specs.Rules.{spaceRow, requestRows};
-ghost use Rattle.model.specs.Calls.{numberOf, verdictReply, foundReply, spaceOf, checkRequest, lookup};
-ghost use Rattle.waylluqen.specs.Words.{translationOf};
+ghost use Rattle.model.specs.Calls.{numberOf, verdictReply, answerReply, foundReply, spaceOf, bytes, checkRequest, bind, lookup};
+ghost use Rattle.waylluqen.specs.Words.{translationOf, answerOf, left};
+ghost use Rattle.bind.specs.Bound.{numbersOf};
+ghost use Rattle.table.specs.Places.{lent};
 
 // A space, as C hands it over.
 #[repr(C)]
@@ -31,6 +35,15 @@ pub struct Translation {
     pub mapped: u64,
     pub object: u64,
     pub offset: u64,
+}
+
+// What a map or unmap answers C. Refusal 0: granted. On a refusal there is no operation, and the count is the one that came in.
+#[repr(C)]
+pub struct AnswerWords {
+    pub refusal: u64,
+    pub place: u64,
+    pub operations: u64,
+    pub count: u64,
 }
 
 // The space of four numbers.
@@ -124,7 +137,7 @@ pub extern "C" fn waylluqen_lookup(
     count: u64,
     address: u64,
 ) -> Translation
-    ensures { λ r. ⌜ r ≡ translationOf (lookup (spaceOf (space .start) (space .size) (space .«reserved_start») (space .«reserved_size»)) (record { words = now (table .entry); count = count }) address) ⌝ }
+    ensures { λ r. ⌜ r ≡ translationOf (lookup (spaceOf (space .start) (space .size) (space .«reserved_start») (space .«reserved_size»)) (lent (now (table .entry)) count) address) ⌝ }
 {
     let s = space_of(
         space.start,
@@ -133,4 +146,71 @@ pub extern "C" fn waylluqen_lookup(
         space.reserved_size,
     );
     found_words(bind::lookup(s, table, count as usize, address))
+}
+
+// An answer in words, on a table of `count` mappings.
+fn answer_words(a: Answer, count: u64) -> AnswerWords
+    ensures { λ r. ⌜ r ≡ answerOf count (answerReply a) ⌝ }
+{
+    match a {
+        Answer::Refused(w) => AnswerWords {
+            refusal: rules::refusal_number(w) as u64,
+            place: rules::refusal_place(w) as u64,
+            operations: 0,
+            count: count,
+        },
+        Answer::Granted(g) => AnswerWords {
+            refusal: 0,
+            place: 0,
+            operations: g.operations as u64,
+            count: g.count as u64,
+        },
+    }
+}
+
+// Maps or unmaps a range in a table of `count` mappings, by the request's numbers: the first of the refusals 13, 1 to 11, and
+// then no word changes; or a grant.
+#[no_mangle]
+pub extern "C" fn waylluqen_bind(
+    space: SpaceWords,
+    table: &mut [u64],
+    count: u64,
+    operations: &mut [u64],
+    request: Numbers,
+) -> AnswerWords
+    ensures { λ a. ⌜ left count (bind (spaceOf (space .start) (space .size) (space .«reserved_start») (space .«reserved_size»)) (lent (now (table .entry)) count) (now (operations .entry)) (numbersOf request)) ≡ record { answer = a; table = now (table .exit); operations = now (operations .exit) } ⌝ }
+{
+    let s = space_of(
+        space.start,
+        space.size,
+        space.reserved_start,
+        space.reserved_size,
+    );
+    answer_words(
+        bind::bind(s, table, count as usize, operations, request),
+        count,
+    )
+}
+
+// The same by the bytes of a record: the refusals 12, 13, 14, 1 to 11.
+#[no_mangle]
+pub extern "C" fn waylluqen_bind_record(
+    space: SpaceWords,
+    table: &mut [u64],
+    count: u64,
+    operations: &mut [u64],
+    record: &[u8],
+) -> AnswerWords
+    ensures { λ a. ⌜ left count (bind (spaceOf (space .start) (space .size) (space .«reserved_start») (space .«reserved_size»)) (lent (now (table .entry)) count) (now (operations .entry)) (bytes (now («record» .entry)))) ≡ record { answer = a; table = now (table .exit); operations = now (operations .exit) } ⌝ }
+{
+    let s = space_of(
+        space.start,
+        space.size,
+        space.reserved_start,
+        space.reserved_size,
+    );
+    answer_words(
+        bind::bind_record(s, table, count as usize, operations, record),
+        count,
+    )
 }

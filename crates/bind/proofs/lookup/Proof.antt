@@ -3,7 +3,8 @@
 use mathlib.Core.Path.{refl, sym, ap, _∙_}
 use Rattle.model.specs.Calls.{verdictReply}
 use Rattle.table.specs.Places.{lent}
-use Rattle.bind.proofs.Lookups.{lookup-by, valid}
+use Rattle.bind.proofs.Checked.{valid}
+use Rattle.bind.proofs.Lookups.{lookup-by}
 use borrow.Author.Needs.{needs}
 use Rattle.bind.proofs.lookup.Statement.{statement}
 use Rattle.bind.proofs.lookup.Tie as tie

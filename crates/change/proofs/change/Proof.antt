@@ -1,0 +1,133 @@
+-- `change::change` meets its contract.
+-- Assumes nothing.
+use native.Mathlib.Omega.{arith}
+use Rattle.model.specs.Table.{mappingsIn}
+use Rattle.model.proofs.Store.{length-mappings}
+use Rattle.table.specs.Places.{endsBehind}
+use Rattle.table.proofs.First.{first-most}
+use Rattle.change.proofs.Hits.{low-high}
+use Rattle.change.proofs.Changed.{placed, room-places, full, carried-out}
+use borrow.Author.Needs.{needs}
+use Rattle.change.proofs.change.Statement.{statement}
+use Rattle.change.proofs.change.Tie as tie
+
+first-ending-behind-requires : tie.Need-first-ending-behind-requires
+first-ending-behind-requires c κs = c .before .before .before .pre .table
+
+last-byte-requires : tie.Need-last-byte-requires
+last-byte-requires c κs = let start = c .before .before .before .before .before in (start .pre .some, start .pre .stop-most)
+
+first-starting-behind-requires : tie.Need-first-starting-behind-requires
+first-starting-behind-requires c κs =
+    let low = c .before .before in
+    let start = low .before .before .before .before in
+    let a = start .args in
+    (omega (arith, low .first-ending-behind .ensures, first-most (endsBehind (a .r .address)) (mappingsIn (a .count) (a .t .now)), length-mappings (a .count) (a .t .now)), start .pre .table .held)
+
+replacement-requires : tie.Need-replacement-requires
+replacement-requires c κs =
+    let high = c .before in
+    let low = high .before .before .before in
+    placed (low .before .before .before .before .pre) (low .first-ending-behind .ensures) (high .before .last-byte .ensures) (high .first-starting-behind .ensures)
+
+replacement-length-requires : tie.Need-replacement-length-requires
+replacement-length-requires c κs = search needs
+
+add-after : tie.Need-add-after
+add-after c =
+    let new = c .before in
+    let high = new .before .before in
+    let low = high .before .before .before in
+    let start = low .before .before .before .before in
+    let p = placed (start .pre) (low .first-ending-behind .ensures) (high .before .last-byte .ensures) (high .first-starting-behind .ensures) in
+    omega (arith, low-high p, start .pre .table .held, c .replacement-length .ensures .1, start .good)
+
+sub-after : tie.Need-sub-after
+sub-after c =
+    let new = c .before in
+    let high = new .before .before in
+    let low = high .before .before .before in
+    let start = low .before .before .before .before in
+    let p = placed (start .pre) (low .first-ending-behind .ensures) (high .before .last-byte .ensures) (high .first-starting-behind .ensures) in
+    low-high p .1
+
+add-after-2 : tie.Need-add-after-2
+add-after-2 c =
+    let new = c .before in
+    let high = new .before .before in
+    let low = high .before .before .before in
+    let start = low .before .before .before .before in
+    let p = placed (start .pre) (low .first-ending-behind .ensures) (high .before .last-byte .ensures) (high .first-starting-behind .ensures) in
+    omega (arith, low-high p, start .pre .table .held, c .replacement-length .ensures .1, start .good)
+
+same-length : tie.Need-same-length
+same-length c = search needs
+
+returns : tie.Need-returns
+returns c =
+    let counted = c .before in
+    let new = counted .before in
+    let high = new .before .before in
+    let low = high .before .before .before in
+    let start = low .before .before .before .before in
+    let p = placed (start .pre) (low .first-ending-behind .ensures) (high .before .last-byte .ensures) (high .first-starting-behind .ensures) in
+    full p (start .args .operations .now) (new .replacement .ensures) (counted .replacement-length .ensures .0) (omega (arith, c .if1 .taken))
+
+write-operations-requires : tie.Need-write-operations-requires
+write-operations-requires c κs =
+    let counted = c .before .before .before in
+    let new = counted .before in
+    let high = new .before .before in
+    let low = high .before .before .before in
+    let start = low .before .before .before .before in
+    let p = placed (start .pre) (low .first-ending-behind .ensures) (high .before .last-byte .ensures) (high .first-starting-behind .ensures) in
+    record { count = start .args .count; table = start .pre .table; low = low-high p .0; high = low-high p .1; some = start .pre .some; stop-most = start .pre .stop-most; room = room-places p (start .args .operations .now) (new .replacement .ensures) (counted .replacement-length .ensures .0) (start .pre) (omega (arith, c .before .before .if1 .left)) }
+
+splice-requires : tie.Need-splice-requires
+splice-requires c κs =
+    let counted = c .before .before .before .before .before .before .before in
+    let new = counted .before in
+    let high = new .before .before in
+    let low = high .before .before .before in
+    let start = low .before .before .before .before in
+    let p = placed (start .pre) (low .first-ending-behind .ensures) (high .before .last-byte .ensures) (high .first-starting-behind .ensures) in
+    record { low = omega (arith, low-high p); high = omega (arith, low-high p); held = start .pre .table .held; room = omega (arith, c .before .before .before .before .before .before .if1 .left, counted .replacement-length .ensures .0) }
+
+same-length-2 : tie.Need-same-length-2
+same-length-2 c = search needs
+
+same-length-3 : tie.Need-same-length-3
+same-length-3 c = search needs
+
+returns-2 : tie.Need-returns-2
+returns-2 c =
+    let spliced = c .before .before in
+    let wrote = spliced .before .before .before .before in
+    let counted = wrote .before .before .before .before in
+    let new = counted .before in
+    let high = new .before .before in
+    let low = high .before .before .before in
+    let start = low .before .before .before .before in
+    let p = placed (start .pre) (low .first-ending-behind .ensures) (high .before .last-byte .ensures) (high .first-starting-behind .ensures) in
+    carried-out p (start .args .operations .now) (new .replacement .ensures) (counted .replacement-length .ensures .0) (omega (arith, wrote .before .before .before .if1 .left))
+    (wrote .write-operations .ensures .0) (wrote .write-operations .ensures .1) (spliced .splice .ensures)
+
+pub change-spec : {M : Type 1} → statement M
+change-spec =
+    tie.close
+    (tie.spec
+    first-ending-behind-requires
+    last-byte-requires
+    first-starting-behind-requires
+    replacement-requires
+    replacement-length-requires
+    add-after
+    sub-after
+    add-after-2
+    same-length
+    returns
+    write-operations-requires
+    splice-requires
+    same-length-2
+    same-length-3
+    returns-2)

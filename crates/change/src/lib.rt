@@ -1,0 +1,61 @@
+// Carries out a request that is known to be in order on a table that is known to be valid, in place. Want of room alone refuses it.
+use model::Answer;
+use model::Grant;
+use model::Refusal;
+use model::Request;
+use table::Replacement;
+ghost use mathlib.Core.Path.{_≡_};
+ghost use mathlib.Core.List.{_++_};
+ghost use Prim.Native.Nat.{_≤_};
+ghost use lib.ListN.{length};
+ghost use Rattle.model.specs.Cut.{new, after};
+ghost use Rattle.model.specs.Calls.{answerReply};
+ghost use Rattle.table.specs.Places.{lent, between};
+ghost use Rattle.table.specs.Splice.{mappingsOf};
+ghost use Rattle.change.specs.Change.{Ready, Placed, changed};
+
+// The mapping that a map asks for, behind what is left below its range.
+fn with_new(below: Replacement, r: Request) -> Replacement
+    requires { ⌜ length (mappingsOf below) ≤ 2 ⌝ }
+    ensures { λ n. ⌜ mappingsOf n ≡ mappingsOf below ++ new r ⌝ }
+{
+    if r.op != 0 {
+        return below;
+    }
+    table::with(below, cut::new_mapping(r))
+}
+
+// What takes the place of the mappings hit, from place `lo` up to `hi`: what is left of the first below the range, the new
+// mapping, what is left of the last above the range.
+fn replacement(r: Request, t: &[u64], lo: usize, hi: usize) -> Replacement
+    requires { ⌜ Placed r (now t) lo hi ⌝ }
+    ensures { λ n. ⌜ mappingsOf n ≡ after r (between (now (t .entry)) lo hi) ⌝ }
+{
+    if lo == hi {
+        return with_new(Replacement::Empty, r);
+    }
+    let lower = cut::lower_part(r, table::read_mapping(t, lo));
+    let upper = cut::upper_part(r, table::read_mapping(t, hi - 1));
+    let below = table::with_part(Replacement::Empty, lower);
+    table::with_part(with_new(below, r), upper)
+}
+
+// The request carried out, unless there is no room: its operations from the first word on, and the table in its place.
+pub fn change(r: Request, t: &mut [u64], count: usize, operations: &mut [u64]) -> Answer
+    requires { ⌜ Ready r (lent (now t) count) (length (now operations)) ⌝ }
+    ensures { λ a. ⌜ changed r (lent (now (t .entry)) count) (now (operations .entry)) ≡ record { answer = answerReply a; table = now (t .exit); operations = now (operations .exit) } ⌝ }
+{
+    let lo = table::first_ending_behind(t, count, r.address);
+    let hi = table::first_starting_behind(t, lo, count, cut::last_byte(r));
+    let new = replacement(r, t, lo, hi);
+    let after = lo + table::replacement_length(new) + (count - hi);
+    if t.len() / 4 < after {
+        return Answer::Refused(Refusal::NoRoom);
+    }
+    let n = cut::write_operations(operations, t, r, lo, hi);
+    table::splice(t, count, lo, hi, new);
+    Answer::Granted(Grant {
+        operations: n,
+        count: after,
+    })
+}

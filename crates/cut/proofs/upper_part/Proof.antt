@@ -1,0 +1,49 @@
+-- `cut::upper_part` meets its contract.
+-- Assumes nothing.
+use mathlib.Core.Path.{refl}
+use native.Mathlib.Omega.{arith}
+use Rattle.cut.proofs.Cases.{upper-is}
+use borrow.Author.Needs.{needs}
+use Rattle.cut.proofs.upper_part.Statement.{statement}
+use Rattle.cut.proofs.upper_part.Tie as tie
+
+last-byte-requires : tie.Need-last-byte-requires
+last-byte-requires c κs = search needs
+
+add-greater : tie.Need-add-greater
+add-greater c = search needs
+
+greater-requires : tie.Need-greater-requires
+greater-requires c κs = search needs
+
+add-distance : tie.Need-add-distance
+add-distance c = search needs
+
+distance-requires : tie.Need-distance-requires
+distance-requires c κs = search needs
+
+sub-t6 : tie.Need-sub-t6
+sub-t6 c = search needs
+
+add-t7 : tie.Need-add-t7
+add-t7 c = search needs
+
+returns : tie.Need-returns
+returns c =
+    let higher = c .before .before .before .before in
+    let last = higher .before in
+    let start = last .before in
+    upper-is (start .args .r) (start .args .m) (higher .greater .ensures) (c .before .before .distance .ensures) refl (omega (arith, last .last-byte .ensures, start .pre .some))
+
+pub upper-part-spec : {M : Type 1} → statement M
+upper-part-spec =
+    tie.close
+    (tie.spec
+    last-byte-requires
+    add-greater
+    greater-requires
+    add-distance
+    distance-requires
+    sub-t6
+    add-t7
+    returns)

@@ -1,0 +1,79 @@
+-- `cut::write_operations` meets its contract.
+-- Assumes nothing.
+use native.Mathlib.Omega.{arith}
+use mathlib.Core.Path.{ap}
+use lib.ListN.{length}
+use Rattle.table.specs.Places.{between}
+use Rattle.table.proofs.Between.{length-between}
+use Rattle.cut.proofs.Written.{room-each, new-map, unmap-written, map-written}
+use borrow.Author.Needs.{needs}
+use Rattle.cut.proofs.write_operations.Statement.{statement}
+use Rattle.cut.proofs.write_operations.Tie as tie
+
+write-hits-requires : tie.Need-write-hits-requires
+write-hits-requires c κs = c .before .before .before .pre
+
+sub-result : tie.Need-sub-result
+sub-result c = let start = c .before .before .before .before .before .before .before .before in start .pre .low
+
+same-length : tie.Need-same-length
+same-length c = search needs
+
+returns : tie.Need-returns
+returns c =
+    let hits = c .before .before .before .before in
+    let a = hits .before .before .before .before .args in
+    unmap-written (a .r) (between (a .t .now) (a .lo) (a .hi)) (a .operations .now) (hits .write-hits .ensures) (length-between (a .t .now) (a .lo) (a .hi)) (c .if1 .taken)
+
+sub-write-operation : tie.Need-sub-write-operation
+sub-write-operation c = let start = c .before .before .before .before .before .before .before .before .before in omega (arith, start .pre .low)
+
+mul-write-operation : tie.Need-mul-write-operation
+mul-write-operation c =
+    let start = c .before .before .before .before .before .before .before .before .before in
+    omega (arith, room-each (start .pre), start .pre .low)
+
+new-mapping-requires : tie.Need-new-mapping-requires
+new-mapping-requires c κs = search needs
+
+write-operation-requires : tie.Need-write-operation-requires
+write-operation-requires c κs =
+    let start = c .before .before .before .before .before .before .before .before .before .before in
+    omega (arith, room-each (start .pre), ap length (new-map (start .args .r) (c .before .before .if1 .left)))
+
+sub-result-2 : tie.Need-sub-result-2
+sub-result-2 c = let start = c .before .before .before .before .before .before .before .before .before .before .before .before .before in start .pre .low
+
+add-result : tie.Need-add-result
+add-result c =
+    let start = c .before .before .before .before .before .before .before .before .before .before .before .before .before in
+    omega (arith, room-each (start .pre), start .pre .low)
+
+same-length-2 : tie.Need-same-length-2
+same-length-2 c = search needs
+
+returns-2 : tie.Need-returns-2
+returns-2 c =
+    let wrote = c .before .before in
+    let made = wrote .before in
+    let hits = made .before .before .before .before .before .before in
+    let a = hits .before .before .before .before .args in
+    map-written (a .r) (between (a .t .now) (a .lo) (a .hi)) (a .operations .now) (hits .write-hits .ensures) (length-between (a .t .now) (a .lo) (a .hi)) (made .before .before .if1 .left)
+    (rw (made .new-mapping .ensures) at (wrote .write-operation .ensures))
+
+pub write-operations-spec : {M : Type 1} → statement M
+write-operations-spec =
+    tie.close
+    (tie.spec
+    write-hits-requires
+    sub-result
+    same-length
+    returns
+    sub-write-operation
+    mul-write-operation
+    new-mapping-requires
+    write-operation-requires
+    sub-result-2
+    add-result
+    same-length-2
+    returns-2)

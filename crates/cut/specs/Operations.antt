@@ -1,0 +1,57 @@
+-- The operations of mappings that are hit, and what the code that writes them asks for.
+-- Assumes nothing.
+use mathlib.Core.List.{List, _∷_, _++_, map}
+use Prim.Native.Nat.{ℕ, _+_, _*_, _≤_, _<_}
+use lib.ListN.{length}
+use Rattle.model.specs.declared.Mapping.{Mapping}
+use Rattle.model.specs.declared.Request.{Request}
+use Rattle.model.specs.declared.Rests.{Rests}
+use Rattle.model.specs.declared.Rests.the-variants.{Lower, Upper, Both}
+use Rattle.model.specs.declared.Operation.{Operation}
+use Rattle.model.specs.declared.Operation.the-variants.{Map}
+use Rattle.model.specs.Rules.{limit, end, stop}
+use Rattle.model.specs.Table.{wordsOf}
+use Rattle.model.specs.Cut.{new, operationOf}
+use Rattle.table.specs.Places.{between, Valid}
+
+-- the range is not empty, and no sum of a cut is large
+pub record Cuttable (r : Request) (m : Mapping) : Type 0 where
+  pub some : 0 < r .size
+  pub stop-most : stop r ≤ limit
+  pub end-most : end m ≤ limit
+  pub offset-most : m .offset + m .size ≤ limit
+
+-- an absent rest as a mapping
+abbrev pub none : Mapping
+none = record { address = 0; size = 0; object = 0; offset = 0 }
+
+abbrev pub lowerOf : Rests → Mapping
+lowerOf (Lower l) = l
+lowerOf (Upper u) = none
+lowerOf (Both l u) = l
+
+abbrev pub upperOf : Rests → Mapping
+upperOf (Lower l) = none
+upperOf (Upper u) = u
+upperOf (Both l u) = u
+
+-- an operation's words, by its parts
+abbrev pub parts : ℕ → ℕ → Mapping → Mapping → Mapping → List ℕ
+parts kind keep old lower upper = kind ∷ keep ∷ (wordsOf old ++ (wordsOf lower ++ wordsOf upper))
+
+-- the operations of these mappings, all hit; and of a request that hits them
+unfoldable pub hitOperations : Request → List Mapping → List Operation
+hitOperations r hs = map (operationOf r) hs
+
+unfoldable pub operationsFor : Request → List Mapping → List Operation
+operationsFor r hs = hitOperations r hs ++ map Map (new r)
+
+-- lo and hi are places of a table that passed its check, and n words have room for the operations
+pub record Hits (r : Request) (ws : List ℕ) (lo hi n : ℕ) : Type 0 where
+  pub count : ℕ
+  pub table : Valid ws count
+  pub low : lo ≤ hi
+  pub high : hi ≤ count
+  pub some : 0 < r .size
+  pub stop-most : stop r ≤ limit
+  pub room : 14 * length (operationsFor r (between ws lo hi)) ≤ n

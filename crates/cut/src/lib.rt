@@ -1,0 +1,243 @@
+// What a request makes of the mappings that it hits: the operation of each, its fourteen words, and the operations of a request.
+use model::Mapping;
+use model::Operation;
+use model::Request;
+use model::Rests;
+ghost use mathlib.Core.Path.{_≡_};
+ghost use mathlib.Core.List.{flatMap};
+ghost use Prim.Native.Nat.{_+_, _-_, _*_, _≤_, _<_};
+ghost use lib.Dec.{leb};
+ghost use lib.ListN.{length};
+ghost use Rattle.model.specs.Rows.{choose};
+ghost use Rattle.model.specs.Rules.{limit, stop};
+ghost use Rattle.model.specs.Cut.{lowerPart, upperPart, mappingOf, keepMark, operationOf, operationWords};
+ghost use Rattle.words.specs.Words.{stored};
+ghost use Rattle.table.specs.Places.{between};
+ghost use Rattle.cut.specs.Operations.{Cuttable, parts, lowerOf, upperOf, none, hitOperations, operationsFor, Hits};
+
+// The words of an operation, and its kinds.
+const OPERATION_WORDS: usize = 14;
+
+const MAP: u64 = 0;
+
+const REMAP: u64 = 1;
+
+const UNMAP: u64 = 2;
+
+// Row 3: so many words have room for one operation more than a table has mappings at most.
+pub fn operations_fit(words: usize, capacity: usize) -> bool
+    ensures { λ b. ⌜ b ≡ leb ((capacity + 1) * 14) words ⌝ }
+{
+    capacity < words / OPERATION_WORDS
+}
+
+// The mapping that a map asks for.
+pub fn new_mapping(r: Request) -> Mapping
+    ensures { λ m. ⌜ m ≡ mappingOf r ⌝ }
+{
+    Mapping {
+        address: r.address,
+        size: r.size,
+        object: r.object,
+        offset: r.offset,
+    }
+}
+
+// Document 01: keep.
+fn keep_mark(r: Request, m: Mapping) -> bool
+    ensures { λ k. ⌜ k ≡ keepMark r m ⌝ }
+{
+    (r.op == 0) & (m.address == r.address) & (m.object == r.object) & (m.offset == r.offset)
+}
+
+// How far `to` lies behind `from`; 0 where it does not.
+fn distance(from: u64, to: u64) -> u64
+    ensures { λ n. ⌜ n ≡ to - from ⌝ }
+{
+    if from < to { to - from } else { 0 }
+}
+
+// The last byte of the requested range.
+pub fn last_byte(r: Request) -> u64
+    requires { ⌜ (0 < r .size) × (stop r ≤ limit) ⌝ }
+    ensures { λ x. ⌜ x ≡ stop r - 1 ⌝ }
+{
+    r.address + (r.size - 1)
+}
+
+// What is left of a mapping below the range.
+pub fn lower_part(r: Request, m: Mapping) -> Mapping
+    requires { ⌜ Cuttable r m ⌝ }
+    ensures { λ l. ⌜ l ≡ lowerPart (r .address) m ⌝ }
+{
+    let end = rules::lesser(r.address, m.address + m.size);
+    Mapping {
+        address: m.address,
+        size: distance(m.address, end),
+        object: m.object,
+        offset: m.offset,
+    }
+}
+
+// What is left of a mapping above the range: its offset moves up by the same distance as its address.
+pub fn upper_part(r: Request, m: Mapping) -> Mapping
+    requires { ⌜ Cuttable r m ⌝ }
+    ensures { λ u. ⌜ u ≡ upperPart (stop r) m ⌝ }
+{
+    let from = rules::greater(last_byte(r) + 1, m.address);
+    Mapping {
+        address: from,
+        size: distance(from, m.address + m.size),
+        object: m.object,
+        offset: m.offset + (from - m.address),
+    }
+}
+
+// The operation of a mapping that is hit: what is left of it decides.
+fn operation_of(r: Request, m: Mapping) -> Operation
+    requires { ⌜ Cuttable r m ⌝ }
+    ensures { λ o. ⌜ o ≡ operationOf r m ⌝ }
+{
+    let keep = keep_mark(r, m);
+    let lower = lower_part(r, m);
+    let upper = upper_part(r, m);
+    if lower.size == 0 {
+        if upper.size == 0 {
+            return Operation::Unmap(keep, m);
+        }
+        return Operation::Remap(keep, m, Rests::Upper(upper));
+    }
+    if upper.size == 0 {
+        return Operation::Remap(keep, m, Rests::Lower(lower));
+    }
+    Operation::Remap(keep, m, Rests::Both(lower, upper))
+}
+
+// An absent rest.
+fn absent() -> Mapping
+    ensures { λ m. ⌜ m ≡ none ⌝ }
+{
+    Mapping {
+        address: 0,
+        size: 0,
+        object: 0,
+        offset: 0,
+    }
+}
+
+fn lower_of(rests: Rests) -> Mapping
+    ensures { λ m. ⌜ m ≡ lowerOf rests ⌝ }
+{
+    match rests {
+        Rests::Lower(l) => l,
+        Rests::Upper(_) => absent(),
+        Rests::Both(l, _) => l,
+    }
+}
+
+fn upper_of(rests: Rests) -> Mapping
+    ensures { λ m. ⌜ m ≡ upperOf rests ⌝ }
+{
+    match rests {
+        Rests::Lower(_) => absent(),
+        Rests::Upper(u) => u,
+        Rests::Both(_, u) => u,
+    }
+}
+
+fn mark(keep: bool) -> u64
+    ensures { λ n. ⌜ n ≡ choose keep 1 0 ⌝ }
+{
+    if keep { 1 } else { 0 }
+}
+
+// Writes the fourteen words of an operation with these parts from word `at` on.
+fn write_parts(
+    operations: &mut [u64],
+    at: usize,
+    kind: u64,
+    keep: u64,
+    old: Mapping,
+    lower: Mapping,
+    upper: Mapping,
+)
+    requires { ⌜ at + 14 ≤ length (now operations) ⌝ }
+    ensures { λ _. ⌜ now (operations .exit) ≡ stored (now (operations .entry)) at (parts kind keep old lower upper) ⌝ }
+{
+    let words = [
+        kind,
+        keep,
+        old.address,
+        old.size,
+        old.object,
+        old.offset,
+        lower.address,
+        lower.size,
+        lower.object,
+        lower.offset,
+        upper.address,
+        upper.size,
+        upper.object,
+        upper.offset,
+    ];
+    words::store(operations, at, &words)
+}
+
+// Writes an operation's words from word `at` on.
+fn write_operation(operations: &mut [u64], at: usize, operation: Operation)
+    requires { ⌜ at + 14 ≤ length (now operations) ⌝ }
+    ensures { λ _. ⌜ now (operations .exit) ≡ stored (now (operations .entry)) at (operationWords operation) ⌝ }
+{
+    match operation {
+        Operation::Map(m) => write_parts(operations, at, MAP, 0, m, absent(), absent()),
+        Operation::Remap(keep, m, rests) => write_parts(
+            operations,
+            at,
+            REMAP,
+            mark(keep),
+            m,
+            lower_of(rests),
+            upper_of(rests),
+        ),
+        Operation::Unmap(keep, m) => {
+            write_parts(operations, at, UNMAP, mark(keep), m, absent(), absent())
+        }
+    }
+}
+
+// Writes the operations of the mappings from place `lo` up to `hi`, from the first word on.
+fn write_hits(operations: &mut [u64], t: &[u64], r: Request, lo: usize, hi: usize)
+    requires { ⌜ Hits r (now t) lo hi (length (now operations)) ⌝ }
+    ensures { λ _. ⌜ now (operations .exit) ≡ stored (now (operations .entry)) 0 (flatMap operationWords (hitOperations r (between (now (t .entry)) lo hi))) ⌝ }
+{
+    let mut i = lo;
+    while i < hi {
+        let operation = operation_of(r, table::read_mapping(t, i));
+        write_operation(operations, OPERATION_WORDS * (i - lo), operation);
+        i += 1;
+    }
+}
+
+// Writes the operations of a request that hits the mappings from place `lo` up to `hi`, from the first word on: theirs, and
+// a map's own behind them. Answers how many there are.
+pub fn write_operations(
+    operations: &mut [u64],
+    t: &[u64],
+    r: Request,
+    lo: usize,
+    hi: usize,
+) -> usize
+    requires { ⌜ Hits r (now t) lo hi (length (now operations)) ⌝ }
+    ensures { λ n. ⌜ (n ≡ length (operationsFor r (between (now (t .entry)) lo hi))) × (now (operations .exit) ≡ stored (now (operations .entry)) 0 (flatMap operationWords (operationsFor r (between (now (t .entry)) lo hi)))) ⌝ }
+{
+    write_hits(operations, t, r, lo, hi);
+    if r.op != 0 {
+        return hi - lo;
+    }
+    write_operation(
+        operations,
+        OPERATION_WORDS * (hi - lo),
+        Operation::Map(new_mapping(r)),
+    );
+    hi - lo + 1
+}
