@@ -1,41 +1,20 @@
 /* How a driver checks a request, and the test of it: a table of cases with their answers. */
+#define _DEFAULT_SOURCE /* for MAP_ANONYMOUS */
+
 #include <inttypes.h>
 #include <stdint.h>
 #include <stdio.h>
 #include <string.h>
 
-#include "waylluqen.h"
+#include "support.h"
 
-#define RECORD_BYTES 40
 #define LONGEST_RECORD 80
-
-#define PAGE UINT64_C(4096)
-#define LIMIT (UINT64_C(1) << 48)
-#define HALF (UINT64_C(1) << 63)
-#define LAST_PAGE (UINT64_MAX - PAGE + 1)
-
-struct request {
-    uint32_t op;
-    uint32_t flags;
-    uint32_t object;
-    uint32_t pad;
-    uint64_t address;
-    uint64_t offset;
-    uint64_t size;
-};
-
-struct space {
-    uint64_t start;
-    uint64_t size;
-    uint64_t reserved_start;
-    uint64_t reserved_size;
-};
 
 struct test_case {
     const char *name;
     uint32_t expected;
-    struct request request;
-    struct space space;
+    struct record request;
+    waylluqen_space space;
     size_t record_bytes;
 };
 
@@ -45,32 +24,6 @@ struct raw_case {
     uint8_t record[RECORD_BYTES];
 };
 
-/* Writes the lowest bytes of value, lowest first, and answers the place after them. */
-static uint8_t *put(uint8_t *to, uint64_t value, int bytes)
-{
-    for (int i = 0; i < bytes; i++) {
-        *to++ = (uint8_t)(value >> (8 * i));
-    }
-    return to;
-}
-
-static void encode(uint8_t record[RECORD_BYTES], const struct request *request)
-{
-    uint8_t *to = record;
-    to = put(to, request->op, 4);
-    to = put(to, request->flags, 4);
-    to = put(to, request->object, 4);
-    to = put(to, request->pad, 4);
-    to = put(to, request->address, 8);
-    to = put(to, request->offset, 8);
-    put(to, request->size, 8);
-}
-
-/* The common space: [0x100000, 0x200000) with [0x140000, 0x180000) reserved. */
-#define COMMON {0x100000, 0x100000, 0x140000, 0x40000}
-/* The same without a reservation. */
-#define FREE {0x100000, 0x100000, 0, 0}
-
 /* Object, address, offset and size of a map; address and size of an unmap. */
 #define MAP(object, address, offset, size) {0, 0, object, 0, address, offset, size}
 #define UNMAP(address, size) {1, 0, 0, 0, address, 0, size}
@@ -78,7 +31,6 @@ static void encode(uint8_t record[RECORD_BYTES], const struct request *request)
 #define GOOD_MAP MAP(7, 0x100000, 0x3000, 0x2000)
 #define GOOD_UNMAP UNMAP(0x100000, 0x2000)
 
-#define SPACE(...) {__VA_ARGS__}
 #define REQUEST(...) {__VA_ARGS__}
 #define CASE(name, expected, request, ...) {name, expected, request, __VA_ARGS__, RECORD_BYTES}
 
@@ -297,7 +249,7 @@ static const struct raw_case raw_cases[] = {
       0, 0, 0, 0, 0, 0, 0, 0, 0, 0, 0, 0, 0, 0x20, 0, 0, 0, 0, 0, 1}},
 };
 
-static void print_input(const uint8_t *record, size_t record_bytes, const struct space *space)
+static void print_input(const uint8_t *record, size_t record_bytes, const waylluqen_space *space)
 {
     printf("  record, %zu bytes:", record_bytes);
     for (size_t i = 0; i < record_bytes; i++) {
@@ -310,7 +262,7 @@ static void print_input(const uint8_t *record, size_t record_bytes, const struct
 
 /* Answers 1 where the library's answer is not the expected one or the record has changed. */
 static int differs(const char *name, uint32_t expected, const uint8_t *record,
-                   size_t record_bytes, const struct space *space)
+                   size_t record_bytes, const waylluqen_space *space)
 {
     /* One byte in front, so that the record is at an odd address. */
     _Alignas(8) uint8_t given[1 + LONGEST_RECORD];
@@ -341,7 +293,7 @@ static int run_case(const struct test_case *test)
 
 int main(void)
 {
-    const struct space common = COMMON;
+    const waylluqen_space common = COMMON;
     const size_t count = sizeof cases / sizeof cases[0];
     const size_t raw_count = sizeof raw_cases / sizeof raw_cases[0];
     size_t failed = 0;

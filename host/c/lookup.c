@@ -5,32 +5,13 @@
 #include <stdint.h>
 #include <stdio.h>
 #include <string.h>
-#include <sys/mman.h>
-#include <unistd.h>
 
-#include "waylluqen.h"
+#include "support.h"
 
-#define PAGE UINT64_C(4096)
-#define LIMIT (UINT64_C(1) << 48)
-#define HALF (UINT64_C(1) << 63)
-#define LAST_PAGE (UINT64_MAX - PAGE + 1)
-#define HIGHEST_OBJECT UINT64_C(0xffffffff)
-
-#define MAPPING_WORDS 4
-#define MOST_MAPPINGS 512
-#define LONGEST_TABLE 3000
 /* The most mappings that a case writes out. */
 #define MOST_WRITTEN 5
 
-_Static_assert(sizeof(waylluqen_space) == 32, "four words, without a gap");
 _Static_assert(sizeof(waylluqen_translation) == 40, "five words, without a gap");
-
-struct mapping {
-    uint64_t address;
-    uint64_t size;
-    uint64_t object;
-    uint64_t offset;
-};
 
 /* Table, count and address of a look-up in a space, and the answer. */
 struct test_case {
@@ -43,28 +24,10 @@ struct test_case {
     struct mapping table[MOST_WRITTEN];
 };
 
-/* The common space: [0x100000, 0x200000) with [0x140000, 0x180000) reserved. */
-#define COMMON {0x100000, 0x100000, 0x140000, 0x40000}
-/* The same with nothing reserved, and with all of it. */
-#define FREE {0x100000, 0x100000, 0, 0}
-#define ALL_RESERVED {0x100000, 0x100000, 0x100000, 0x100000}
-/* All that a space may have. */
-#define WIDEST {0, LIMIT, 0, 0}
-#define SPACE(...) {__VA_ARGS__}
-
 #define SHOWS(object, offset) {0, 0, 1, object, offset}
 #define NOTHING {0, 0, 0, 0, 0}
 #define REFUSED(number) {number, 0, 0, 0, 0}
 #define BAD_PLACE(place) {WAYLLUQEN_BAD_MAPPING, place, 0, 0, 0}
-
-/* Two that touch each other, one on each side of the reservation, and the space's last page. */
-#define FIRST {0x100000, 0x2000, 7, 0x3000}
-#define SECOND {0x102000, 0x1000, 8, 0}
-#define THIRD {0x13f000, 0x1000, HIGHEST_OBJECT, 0x1000}
-#define FOURTH {0x180000, 0x1000, 1, 0x5000}
-#define LAST {0x1ff000, 0x1000, 9, LIMIT - PAGE}
-#define FIVE {FIRST, SECOND, THIRD, FOURTH, LAST}
-#define ONES {1, 1, 1, 1}
 
 /* A table that is full of n mappings. */
 #define FULL(n) n, (n) * MAPPING_WORDS
@@ -268,40 +231,19 @@ static const struct full_case full_cases[] = {
     {"bad at 511 of 512", BAD_PLACE(511), 0, 511},
 };
 
-/* Memory between two pages that may not be touched, and how much of it there is. */
-static uint8_t *lent;
-static size_t lent_bytes;
-
-/* Answers 0 where there is no such memory. */
-static int prepare_memory(void)
-{
-    size_t page = (size_t)sysconf(_SC_PAGESIZE);
-    lent_bytes = (LONGEST_TABLE * sizeof(uint64_t) + page - 1) / page * page;
-    uint8_t *all = mmap(NULL, lent_bytes + 2 * page, PROT_NONE, MAP_PRIVATE | MAP_ANONYMOUS, -1, 0);
-    if (all == MAP_FAILED) {
-        return 0;
-    }
-    lent = all + page;
-    return 1;
-}
+static struct lent lent;
 
 /*
- * Copies the words to the front or to the back of the lent memory and makes it read-only: a write
- * ends the test, and so does a read before the front or behind the back.
+ * Lends the words at the front or at the back of the memory, which is read-only: a write ends the
+ * test too. Answers NULL where it can't be done.
  */
-static const uint64_t *lend(const uint64_t *words, size_t table_words, int at_back)
+static const uint64_t *lend_to_read(const uint64_t *words, size_t table_words, int at_back)
 {
-    size_t bytes = table_words * sizeof *words;
-    uint8_t *to = at_back ? lent + lent_bytes - bytes : lent;
-    if (mprotect(lent, lent_bytes, PROT_READ | PROT_WRITE) != 0) {
+    if (mprotect(lent.memory, lent.bytes, PROT_READ | PROT_WRITE) != 0) {
         return NULL;
     }
-    memset(lent, 0xa5, lent_bytes);
-    memcpy(to, words, bytes);
-    if (mprotect(lent, lent_bytes, PROT_READ) != 0) {
-        return NULL;
-    }
-    return (const uint64_t *)(const void *)to;
+    const uint64_t *table = lend(&lent, words, table_words, at_back);
+    return mprotect(lent.memory, lent.bytes, PROT_READ) == 0 ? table : NULL;
 }
 
 static void print_answer(const char *what, waylluqen_translation answer)
@@ -321,7 +263,7 @@ static int is_same(waylluqen_translation one, waylluqen_translation other)
 static int differs(const struct test_case *test, const uint64_t *words)
 {
     for (int at_back = 0; at_back <= 1; at_back++) {
-        const uint64_t *table = lend(words, test->table_words, at_back);
+        const uint64_t *table = lend_to_read(words, test->table_words, at_back);
         if (table == NULL) {
             printf("host/c: %s: mprotect failed\n", test->name);
             return 1;
@@ -342,7 +284,7 @@ static int run_case(const struct test_case *test)
 {
     /* What follows the written mappings is not 0, so that looking at it would be noticed. */
     static uint64_t words[LONGEST_TABLE];
-    memset(words, 0xa5, sizeof words);
+    memset(words, UNWRITTEN_BYTE, sizeof words);
     memcpy(words, test->table, sizeof test->table);
     return differs(test, words);
 }
@@ -369,7 +311,7 @@ int main(void)
     const size_t full_count = sizeof full_cases / sizeof full_cases[0];
     size_t failed = 0;
 
-    if (!prepare_memory()) {
+    if (!prepare(&lent, LONGEST_TABLE)) {
         printf("host/c: mmap failed\n");
         return 1;
     }

@@ -3,7 +3,7 @@
 //! For tests and benchmarks that look at every word of an answer; others use the crate's own
 //! functions.
 
-use crate::Space;
+use crate::{Request, Space};
 
 /// The answer to a look-up: `waylluqen_translation`.
 #[repr(C)]
@@ -19,6 +19,20 @@ pub struct Translation {
     pub object: u64,
     /// The address's offset in the object, else 0.
     pub offset: u64,
+}
+
+/// The answer to a request: `waylluqen_answer`.
+#[repr(C)]
+#[derive(Clone, Copy, Debug, PartialEq, Eq)]
+pub struct Answer {
+    /// The number of the refusal; 0 where the request is granted.
+    pub refusal: u64,
+    /// The place of a mapping that is refused, else 0.
+    pub place: u64,
+    /// How many operations were written; 0 on a refusal.
+    pub operations: u64,
+    /// How many mappings the table has now; on a refusal the count that came in.
+    pub count: u64,
 }
 
 extern "C" {
@@ -48,4 +62,37 @@ extern "C" {
         count: u64,
         address: u64,
     ) -> Translation;
+
+    /// Maps or unmaps a range.
+    ///
+    /// # Safety
+    ///
+    /// `table` and `operations` are not null and aligned, `table_words` and `operation_words` words
+    /// can be read and written there, they don't overlap, and nobody else uses them meanwhile.
+    pub fn waylluqen_bind(
+        space: Space,
+        table: *mut u64,
+        table_words: usize,
+        count: u64,
+        operations: *mut u64,
+        operation_words: usize,
+        request: Request,
+    ) -> Answer;
+
+    /// Maps or unmaps a range that comes as a record.
+    ///
+    /// # Safety
+    ///
+    /// As for [`waylluqen_bind`]; and `record` is not null, `record_bytes` bytes can be read there,
+    /// and they overlap neither slice.
+    pub fn waylluqen_bind_record(
+        space: Space,
+        table: *mut u64,
+        table_words: usize,
+        count: u64,
+        operations: *mut u64,
+        operation_words: usize,
+        record: *const u8,
+        record_bytes: usize,
+    ) -> Answer;
 }

@@ -1,15 +1,12 @@
 //! Compares the library's request check to the model's, input by input.
 
 mod common;
+mod requests;
 
-use common::{
-    disturb_space, edge, edge_spaces, edges, given, good_space, other64, pages_in, size_to_edge,
-    HALF, LIMIT,
-};
+use common::{disturb_space, edge_spaces, edges, given, good_space, HALF, LIMIT};
+use requests::{disturb_record, good_record, place, LONGEST_RECORD, MAP, UNMAP};
 use waylluqen_model::random::Random;
-use waylluqen_model::{Request, Space, MAP, PAGE, RECORD_BYTES, UNMAP};
-
-const LONGEST_RECORD: usize = 80;
+use waylluqen_model::{Record, Space, PAGE, RECORD_BYTES};
 
 const ANSWERS: [u32; 10] = [0, 1, 6, 7, 8, 9, 10, 12, 13, 14];
 
@@ -53,88 +50,6 @@ fn report_difference(record: &[u8], space: &Space, library: u32, model: u32) -> 
     );
 }
 
-/// A part of the space that is not reserved; the whole space where there is none.
-fn free_part(random: &mut Random, space: &Space) -> (u64, u64) {
-    let end = space.start + space.size;
-    let reserved_end = space.reserved_start + space.reserved_size;
-    if space.reserved_size == 0 {
-        return (space.start, end);
-    }
-    let below = (space.start, space.reserved_start);
-    let above = (reserved_end, end);
-    let parts = match random.below(2) {
-        0 => [below, above],
-        _ => [above, below],
-    };
-    let free = parts.into_iter().find(|(start, end)| start < end);
-    free.unwrap_or((space.start, end))
-}
-
-/// A request that keeps the rules in a good space, if the space has a free page.
-fn good_request(random: &mut Random, space: &Space) -> Request {
-    let (start, end) = free_part(random, space);
-    let (addr, range) = pages_in(random, start, end);
-    let op = random.pick(&[MAP, UNMAP]);
-    let (handle, bo_offset) = if op == MAP {
-        let offset = random.up_to((LIMIT - range) / PAGE) * PAGE;
-        (1 + random.up_to(u64::from(u32::MAX) - 1) as u32, offset)
-    } else {
-        (0, 0)
-    };
-    Request {
-        op,
-        flags: 0,
-        handle,
-        pad: 0,
-        addr,
-        bo_offset,
-        range,
-    }
-}
-
-/// Another value for a 32-bit field.
-fn other32(random: &mut Random) -> u32 {
-    let bit = 1 << random.below(32);
-    let any = random.next_u64() as u32;
-    random.pick(&[0, 1, 2, u32::MAX, u32::MAX - 1, bit, any])
-}
-
-/// Changes one field of the request, or two so that their sum is at an edge.
-fn disturb_request(random: &mut Random, request: &mut Request, space: &Space) {
-    match random.below(10) {
-        0 => request.op = other32(random),
-        1 => request.flags = other32(random),
-        2 => request.pad = other32(random),
-        3 => request.handle = other32(random),
-        4 => request.op = random.pick(&[MAP, UNMAP]),
-        5 => request.addr = other64(random, space, request.addr),
-        6 => request.bo_offset = other64(random, space, request.bo_offset),
-        7 => request.range = other64(random, space, request.range),
-        8 => {
-            request.addr = edge(random, space);
-            request.range = size_to_edge(random, space, request.addr);
-        }
-        _ => request.bo_offset = size_to_edge(random, space, request.range),
-    }
-}
-
-/// Copies the record to a random place in `buffer`, with random bytes after it, and answers it
-/// at a length that is mostly the right one.
-fn place<'a>(
-    random: &mut Random,
-    record: &[u8; RECORD_BYTES],
-    buffer: &'a mut [u8; 8 + LONGEST_RECORD],
-) -> &'a [u8] {
-    let start = random.below(8) as usize;
-    let mut length = RECORD_BYTES;
-    if random.once_in(50) {
-        length = random.below(1 + LONGEST_RECORD as u64) as usize;
-        random.fill(&mut buffer[start + RECORD_BYTES..]);
-    }
-    buffer[start..start + RECORD_BYTES].copy_from_slice(record);
-    &buffer[start..start + length]
-}
-
 #[test]
 fn good_inputs_and_those_near_them() {
     const INPUTS: u64 = 4_000_000;
@@ -143,14 +58,14 @@ fn good_inputs_and_those_near_them() {
     let mut buffer = [0; 8 + LONGEST_RECORD];
     for _ in 0..INPUTS {
         let mut space = good_space(&mut random);
-        let mut request = good_request(&mut random, &space);
+        let mut record = good_record(&mut random, &space);
         for _ in 0..random.below(3) {
-            disturb_request(&mut random, &mut request, &space);
+            disturb_record(&mut random, &mut record, &space);
         }
         if random.once_in(4) {
             disturb_space(&mut random, &mut space);
         }
-        let record = place(&mut random, &request.encode(), &mut buffer);
+        let record = place(&mut random, &record.encode(), &mut buffer);
         tally.compare(record, &space);
     }
     tally.assert_answers(1000);
@@ -196,7 +111,7 @@ fn every_record_length() {
         let mut bytes = [0; LONGEST_RECORD];
         random.fill(&mut bytes);
         let mut good = bytes;
-        good[..RECORD_BYTES].copy_from_slice(&good_request(&mut random, &space).encode());
+        good[..RECORD_BYTES].copy_from_slice(&good_record(&mut random, &space).encode());
         for length in 0..=LONGEST_RECORD {
             tally.compare(&bytes[..length], &space);
             tally.compare(&good[..length], &space);
@@ -211,16 +126,8 @@ fn every_record_length() {
 fn compare_ops_and_objects(tally: &mut Tally, space: &Space, [addr, range, bo_offset]: [u64; 3]) {
     for op in [MAP, UNMAP] {
         for handle in [0, 1, u32::MAX] {
-            let request = Request {
-                op,
-                flags: 0,
-                handle,
-                pad: 0,
-                addr,
-                bo_offset,
-                range,
-            };
-            tally.compare(&request.encode(), space);
+            let record = Record::plain(op, handle, addr, bo_offset, range);
+            tally.compare(&record.encode(), space);
         }
     }
 }
@@ -282,7 +189,7 @@ fn requests_at_edges() {
 
 #[test]
 fn spaces_at_edges() {
-    let request = Request {
+    let record = Record {
         op: UNMAP,
         flags: 0,
         handle: 0,
@@ -291,10 +198,9 @@ fn spaces_at_edges() {
         bo_offset: 0,
         range: PAGE,
     };
-    let record = request.encode();
     let mut tally = Tally::default();
     for space in edge_spaces() {
-        tally.compare(&record, &space);
+        tally.compare(&record.encode(), &space);
     }
     for answer in [0, 1, 7, 8] {
         assert!(tally.seen[answer] > 0, "answer {answer} did not come");

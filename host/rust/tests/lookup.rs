@@ -1,90 +1,20 @@
 //! Compares the library's look-up to the model's, input by input.
 
 mod common;
+mod memory;
 mod tables;
 
-use common::{
-    disturb_space, edge_spaces, edges, given, good_space, other64, space_of, HALF, LIMIT,
+use common::{disturb_space, edge_spaces, edges, given, other64, space_of, HALF, LIMIT};
+use memory::Lent;
+use tables::{
+    any_address, any_table, boundaries, damage, fill_space, good_table, other_count, other_length,
+    plain_spaces, small_spaces, Table, DAMAGES, LONGEST_TABLE, MOST_WORDS,
 };
-use std::hint::black_box;
-use tables::{any_address, boundaries, fill_space, good_table, Good, DAMAGES};
 use waylluqen::ffi;
 use waylluqen_model::random::Random;
 use waylluqen_model::{lookup, Refused, Space, Translation, MAPPING_WORDS, MOST_MAPPINGS, PAGE};
 
-const MOST_WORDS: usize = MOST_MAPPINGS * MAPPING_WORDS;
-const LONGEST_TABLE: usize = 2 * MOST_WORDS;
-
-/// How many words on each side of a table vary.
-const BESIDE: usize = 8;
-
 type Answer = Result<Option<Translation>, Refused>;
-
-/// A table as a part of longer memory, whose other words vary from call to call.
-struct Lent {
-    memory: Vec<u64>,
-    start: usize,
-    words: usize,
-}
-
-impl Lent {
-    fn new() -> Lent {
-        Lent {
-            memory: Vec::with_capacity(LONGEST_TABLE + 3 * BESIDE),
-            start: 0,
-            words: 0,
-        }
-    }
-
-    /// Puts the table anywhere, aligned as a word is and no better.
-    fn put(&mut self, random: &mut Random, table: &[u64]) {
-        self.start = BESIDE + random.below(BESIDE as u64) as usize;
-        self.words = table.len();
-        self.memory.clear();
-        self.memory.resize(self.start, 0);
-        self.memory.extend_from_slice(table);
-        self.memory.resize(self.memory.len() + BESIDE, 0);
-    }
-
-    fn table(&self) -> &[u64] {
-        &self.memory[self.start..self.start + self.words]
-    }
-
-    /// Other words around the table and behind its first `count` mappings: any, zeros, or a
-    /// mapping that shows the address.
-    fn stir(&mut self, random: &mut Random, count: u64, address: u64) {
-        let first = address / PAGE * PAGE;
-        let choice = random.below(3);
-        let mut other = |at: usize| match choice {
-            0 => random.next_u64(),
-            1 => 0,
-            _ => [first, PAGE, 9, 0][at % MAPPING_WORDS],
-        };
-        let start = self.start;
-        let end = start + self.words;
-        let used = count.saturating_mul(MAPPING_WORDS as u64);
-        let behind = start + used.min(self.words as u64) as usize;
-        for at in start - BESIDE..start {
-            self.memory[at] = other(at + BESIDE - start);
-        }
-        for at in behind..end.min(behind + BESIDE) {
-            self.memory[at] = other(at - behind);
-        }
-        for at in end..end + BESIDE {
-            self.memory[at] = other(at - end);
-        }
-    }
-
-    /// What `call` answers, which must leave all the memory as it is.
-    fn lend<T>(&mut self, call: impl FnOnce(&[u64]) -> T) -> T {
-        let before = self.memory.clone();
-        let answer = call(self.table());
-        // Without this the compiler may take it for granted that lent words are unchanged.
-        let after = black_box(&mut self.memory);
-        assert_eq!(*after, before, "a lent word was changed");
-        answer
-    }
-}
 
 /// The five words in which the library gives this answer.
 fn in_words(answer: Answer) -> ffi::Translation {
@@ -142,7 +72,7 @@ impl Tally {
     fn new(seed: u64) -> Tally {
         Tally {
             random: Random::new(seed),
-            lent: Lent::new(),
+            lent: Lent::default(),
             comparisons: 0,
             mapped: 0,
             unmapped: 0,
@@ -159,20 +89,26 @@ impl Tally {
         let library = given(space);
         self.lent.put(&mut self.random, table);
         self.lent.stir(&mut self.random, count, address);
-        let words = self.lent.lend(|lent| {
+        let words = self.lend(|lent| {
             // SAFETY: the pointer and the length are those of a slice.
             unsafe { ffi::waylluqen_lookup(library, lent.as_ptr(), lent.len(), count, address) }
         });
         self.lent.stir(&mut self.random, count, address);
-        let rust = self
-            .lent
-            .lend(|lent| waylluqen::lookup(library, lent, count, address));
+        let rust = self.lend(|lent| waylluqen::lookup(library, lent, count, address));
         if words != in_words(model) || rust != in_rust(model) {
             let input = format!("{space:#x?}\ncount {count}, address {address:#x}");
             report_difference(&input, table, &format!("{words:?}, {rust:?}"), model);
         }
         self.note(model, count);
         model
+    }
+
+    /// What `call` answers, which must leave all the memory as it is.
+    fn lend<T>(&mut self, call: impl FnOnce(&[u64]) -> T) -> T {
+        self.lent.expect(|_| {});
+        let answer = call(self.lent.words());
+        assert!(self.lent.is_as_expected(), "a lent word was changed");
+        answer
     }
 
     fn note(&mut self, answer: Answer, count: u64) {
@@ -229,52 +165,6 @@ fn report_difference(input: &str, table: &[u64], library: &str, model: Answer) -
     );
 }
 
-/// Another count: about the number of mappings, the capacity and the words, or any.
-fn other_count(random: &mut Random, mappings: u64, words: u64) -> u64 {
-    let capacity = words / MAPPING_WORDS as u64;
-    let near = random.pick(&[0, mappings, capacity, words, 1 << 32, 1 << 62]);
-    match random.below(8) {
-        0 => random.next_u64(),
-        1 => random.below(capacity + 1),
-        // What multiplied by four is right again in 64 bits.
-        2 => mappings + (1 << 62) * random.below(4),
-        3 => u64::MAX,
-        4 => near.wrapping_sub(1),
-        5 => near + 1,
-        _ => near,
-    }
-}
-
-/// Another length: short, beside the present one, about the longest, or longer.
-fn other_length(random: &mut Random, present: usize) -> usize {
-    match random.below(6) {
-        0 => random.below(9) as usize,
-        1 => present + 1 + random.below(8) as usize,
-        2 => present.saturating_sub(1 + random.below(8) as usize),
-        3 => MOST_WORDS - 8 + random.below(17) as usize,
-        4 => MOST_WORDS + MAPPING_WORDS,
-        _ => random.below(LONGEST_TABLE as u64) as usize,
-    }
-}
-
-/// Damages one word or mapping, anywhere in the table.
-fn damage(random: &mut Random, good: &Good, words: &mut [u64]) {
-    let mappings = good.mappings.len();
-    let place = match random.below(4) {
-        0 => 0,
-        1 => mappings - 1,
-        _ => random.below(mappings as u64) as usize,
-    };
-    let at = place * MAPPING_WORDS + random.below(MAPPING_WORDS as u64) as usize;
-    let (_, damage) = random.pick(&DAMAGES);
-    damage(
-        random,
-        &good.space,
-        &mut words[..mappings * MAPPING_WORDS],
-        at,
-    );
-}
-
 #[test]
 fn good_tables_and_those_near_them() {
     const TABLES: u64 = 25_000;
@@ -282,7 +172,7 @@ fn good_tables_and_those_near_them() {
     let mut random = Random::new(11);
     let mut tally = Tally::new(12);
     for _ in 0..TABLES {
-        let good = good_table(&mut random);
+        let good = good_table(&mut random, MOST_MAPPINGS as u64);
         let mappings = good.mappings.len();
         let spare = random.up_to((MOST_MAPPINGS - mappings) as u64) as usize;
         let words = good.words(&mut random, spare);
@@ -310,19 +200,6 @@ fn good_tables_and_those_near_them() {
     tally.print("good tables and those near them");
     tally.assert_answers(1000);
     assert!(tally.comparisons >= 1_000_000);
-}
-
-/// Spaces with and without a reservation, at both ends of all that there is.
-fn plain_spaces() -> [Space; 6] {
-    [
-        [0, LIMIT, 0, 0],
-        [0, LIMIT, 1 << 32, 1 << 32],
-        [0, 4096 * PAGE, 0, PAGE],
-        [LIMIT - 2048 * PAGE, 2048 * PAGE, LIMIT - PAGE, PAGE],
-        [16 * PAGE, 600 * PAGE, 300 * PAGE, PAGE],
-        [16 * PAGE, 512 * PAGE, 0, 0],
-    ]
-    .map(space_of)
 }
 
 #[test]
@@ -423,49 +300,19 @@ fn any_words() {
     let mut random = Random::new(61);
     let mut tally = Tally::new(62);
     for _ in 0..INPUTS {
-        let space = match random.below(8) {
-            0 => Space {
-                start: random.next_u64(),
-                size: random.next_u64(),
-                reserved_start: random.next_u64(),
-                reserved_size: random.next_u64(),
-            },
-            _ => good_space(&mut random),
-        };
-        let length = match random.below(8) {
-            0 => random.below(40),
-            1 => random.below(LONGEST_TABLE as u64),
-            _ => MAPPING_WORDS as u64 * (1 + random.below(8)),
-        };
-        // Random numbers alone would almost never be multiples of a page.
-        let table: Vec<u64> = (0..length)
-            .map(|_| match random.below(4) {
-                0 => random.next_u64() >> random.below(64),
-                1 => random.below(64) * PAGE,
-                2 => space.start.wrapping_add(random.below(64) * PAGE),
-                _ => other64(&mut random, &space, 0),
-            })
-            .collect();
-        let count = other_count(&mut random, 1, length);
+        let Table {
+            space,
+            words,
+            count,
+        } = any_table(&mut random);
         let address = other64(&mut random, &space, space.start);
-        tally.compare(&space, &table, count, address).ok();
+        tally.compare(&space, &words, count, address).ok();
     }
     tally.print("any words");
     for number in [1, 2, 4, 5] {
         assert!(tally.refused[number] >= 1000, "{number} came too rarely");
     }
     assert!(tally.unmapped >= 1000);
-}
-
-/// Spaces of a few pages, so that every sum is near every boundary.
-fn small_spaces() -> [Space; 4] {
-    [
-        [4 * PAGE, 8 * PAGE, 8 * PAGE, 2 * PAGE],
-        [4 * PAGE, 8 * PAGE, 0, 0],
-        [0, 8 * PAGE, 0, 2 * PAGE],
-        [LIMIT - 8 * PAGE, 8 * PAGE, LIMIT - 2 * PAGE, 2 * PAGE],
-    ]
-    .map(space_of)
 }
 
 /// Every address, size, object and offset at an edge, together.

@@ -5,19 +5,28 @@
 #![no_std]
 #![forbid(unsafe_code)]
 
+extern crate alloc;
+
 pub mod answer;
+pub mod bind;
 pub mod extent;
 pub mod lookup;
 pub mod mapping;
+pub mod pages;
 pub mod random;
+pub mod replay;
 pub mod request;
 pub mod space;
 pub mod table;
 
+pub use answer::Refused;
+pub use bind::{bind, bind_record, Grant, Operation, OPERATION_WORDS};
 pub use extent::Extent;
-pub use lookup::{lookup, Refused, Translation};
+pub use lookup::{lookup, Translation};
 pub use mapping::{mapping_holds, Mapping, HIGHEST_OBJECT, MAPPING_WORDS};
-pub use request::{decode, request_refusal, Request, MAP, RECORD_BYTES, UNMAP};
+pub use pages::{Page, Pages};
+pub use replay::replay;
+pub use request::{decode, request_refusal, Record, Request, MAP, RECORD_BYTES, UNMAP};
 pub use space::{space_holds, Space};
 pub use table::MOST_MAPPINGS;
 

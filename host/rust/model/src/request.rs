@@ -1,15 +1,31 @@
-//! The request record and its rules.
+//! A request, the record in which it may come, and its rules.
 
-use crate::{answer, is_page_multiple, Extent, Space, LIMIT};
+use crate::{answer, is_page_multiple, Extent, Space, HIGHEST_OBJECT, LIMIT};
 
-pub const MAP: u32 = 0;
-pub const UNMAP: u32 = 1;
+pub const MAP: u64 = 0;
+pub const UNMAP: u64 = 1;
 
 pub const RECORD_BYTES: usize = 40;
 
-/// The fields of a record, in their order.
+/// The numbers of a request, in their order.
 #[derive(Clone, Copy, Debug, PartialEq, Eq)]
 pub struct Request {
+    pub op: u64,
+    pub address: u64,
+    pub size: u64,
+    pub object: u64,
+    pub offset: u64,
+}
+
+impl Request {
+    pub fn extent(&self) -> Extent {
+        Extent::new(self.address, self.size)
+    }
+}
+
+/// The fields of a record, in their order.
+#[derive(Clone, Copy, Debug, PartialEq, Eq)]
+pub struct Record {
     pub op: u32,
     pub flags: u32,
     pub handle: u32,
@@ -19,22 +35,42 @@ pub struct Request {
     pub range: u64,
 }
 
-impl Request {
-    pub fn extent(&self) -> Extent {
-        Extent::new(self.addr, self.range)
+impl Record {
+    /// A record whose flags and pad are 0.
+    pub fn plain(op: u32, handle: u32, addr: u64, bo_offset: u64, range: u64) -> Record {
+        Record {
+            op,
+            flags: 0,
+            handle,
+            pad: 0,
+            addr,
+            bo_offset,
+            range,
+        }
     }
 
-    /// The record of any fields, also of those that `decode` refuses.
+    /// The bytes of any fields, also of those that `decode` refuses.
     pub fn encode(&self) -> [u8; RECORD_BYTES] {
-        let mut record = [0; RECORD_BYTES];
-        record[0..4].copy_from_slice(&self.op.to_le_bytes());
-        record[4..8].copy_from_slice(&self.flags.to_le_bytes());
-        record[8..12].copy_from_slice(&self.handle.to_le_bytes());
-        record[12..16].copy_from_slice(&self.pad.to_le_bytes());
-        record[16..24].copy_from_slice(&self.addr.to_le_bytes());
-        record[24..32].copy_from_slice(&self.bo_offset.to_le_bytes());
-        record[32..40].copy_from_slice(&self.range.to_le_bytes());
-        record
+        let mut bytes = [0; RECORD_BYTES];
+        bytes[0..4].copy_from_slice(&self.op.to_le_bytes());
+        bytes[4..8].copy_from_slice(&self.flags.to_le_bytes());
+        bytes[8..12].copy_from_slice(&self.handle.to_le_bytes());
+        bytes[12..16].copy_from_slice(&self.pad.to_le_bytes());
+        bytes[16..24].copy_from_slice(&self.addr.to_le_bytes());
+        bytes[24..32].copy_from_slice(&self.bo_offset.to_le_bytes());
+        bytes[32..40].copy_from_slice(&self.range.to_le_bytes());
+        bytes
+    }
+
+    /// The same as numbers, which have no flags and no pad.
+    pub fn request(&self) -> Request {
+        Request {
+            op: u64::from(self.op),
+            address: self.addr,
+            size: self.range,
+            object: u64::from(self.handle),
+            offset: self.bo_offset,
+        }
     }
 }
 
@@ -46,50 +82,53 @@ fn number(bytes: &[u8]) -> u64 {
         .fold(0, |sum, &byte| sum * 256 + u64::from(byte))
 }
 
+pub fn op_holds(op: u64) -> bool {
+    op == MAP || op == UNMAP
+}
+
 /// The request in a record, or the refusal of the record itself.
-pub fn decode(record: &[u8]) -> Result<Request, u32> {
-    if record.len() != RECORD_BYTES {
+pub fn decode(bytes: &[u8]) -> Result<Request, u32> {
+    if bytes.len() != RECORD_BYTES {
         return Err(answer::BAD_RECORD_LENGTH);
     }
-    let request = Request {
-        op: number(&record[0..4]) as u32,
-        flags: number(&record[4..8]) as u32,
-        handle: number(&record[8..12]) as u32,
-        pad: number(&record[12..16]) as u32,
-        addr: number(&record[16..24]),
-        bo_offset: number(&record[24..32]),
-        range: number(&record[32..40]),
+    let record = Record {
+        op: number(&bytes[0..4]) as u32,
+        flags: number(&bytes[4..8]) as u32,
+        handle: number(&bytes[8..12]) as u32,
+        pad: number(&bytes[12..16]) as u32,
+        addr: number(&bytes[16..24]),
+        bo_offset: number(&bytes[24..32]),
+        range: number(&bytes[32..40]),
     };
-    if request.op != MAP && request.op != UNMAP {
+    if !op_holds(u64::from(record.op)) {
         return Err(answer::BAD_OP);
     }
-    if request.flags != 0 || request.pad != 0 {
+    if record.flags != 0 || record.pad != 0 {
         return Err(answer::BAD_FLAGS);
     }
-    Ok(request)
+    Ok(record.request())
 }
 
 fn is_aligned(request: &Request) -> bool {
-    is_page_multiple(request.addr)
-        && is_page_multiple(request.range)
-        && is_page_multiple(request.bo_offset)
-        && request.range != 0
+    is_page_multiple(request.address)
+        && is_page_multiple(request.size)
+        && is_page_multiple(request.offset)
+        && request.size != 0
 }
 
-/// A map names an object; an unmap names none and has no offset. A handle has 32 bits, so no
-/// object is above 2^32 - 1.
+/// A map names an object; an unmap names none and has no offset.
 fn object_holds(request: &Request) -> bool {
     match request.op {
-        MAP => request.handle != 0,
-        _ => request.handle == 0 && request.bo_offset == 0,
+        MAP => (1..=HIGHEST_OBJECT).contains(&request.object),
+        _ => request.object == 0 && request.offset == 0,
     }
 }
 
 fn offset_holds(request: &Request) -> bool {
-    request.op != MAP || Extent::new(request.bo_offset, request.range).end <= LIMIT
+    request.op != MAP || Extent::new(request.offset, request.size).end <= LIMIT
 }
 
-/// The first rule that a decoded request breaks in a space that keeps its own.
+/// The first rule that a request breaks in a space that keeps its own; its op is a good one.
 pub fn request_refusal(request: &Request, space: &Space) -> Option<u32> {
     if !is_aligned(request) {
         Some(answer::UNALIGNED)

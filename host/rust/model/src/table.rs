@@ -1,6 +1,7 @@
 //! A table of mappings in lent words, and its rules.
 
-use crate::{mapping_holds, Mapping, Space, MAPPING_WORDS};
+use crate::bind::least_operation_words;
+use crate::{answer, mapping_holds, space_holds, Mapping, Refused, Space, MAPPING_WORDS};
 
 /// A table has room for one mapping at least and for this many at most.
 pub const MOST_MAPPINGS: usize = 512;
@@ -40,4 +41,35 @@ fn place_holds(space: &Space, table: &[u64], place: usize) -> bool {
 /// precedes its forerunner.
 pub fn bad_place(space: &Space, table: &[u64], count: usize) -> Option<usize> {
     (0..count).find(|&place| !place_holds(space, table, place))
+}
+
+/// The first reason not to look at a table; else the number of its mappings. A call that writes
+/// operations was lent words for them.
+pub fn check_table(
+    space: &Space,
+    table: &[u64],
+    count: u64,
+    operation_words: Option<usize>,
+) -> Result<usize, Refused> {
+    if !space_holds(space) {
+        return Err(Refused::of(answer::BAD_SPACE));
+    }
+    if !length_holds(table.len()) {
+        return Err(Refused::of(answer::BAD_TABLE_LENGTH));
+    }
+    let capacity = capacity(table);
+    if operation_words.is_some_and(|words| words < least_operation_words(capacity)) {
+        return Err(Refused::of(answer::SHORT_OPERATIONS));
+    }
+    if count > capacity as u64 {
+        return Err(Refused::of(answer::BAD_COUNT));
+    }
+    let count = count as usize;
+    match bad_place(space, table, count) {
+        None => Ok(count),
+        Some(place) => Err(Refused {
+            number: answer::BAD_MAPPING,
+            place: place as u64,
+        }),
+    }
 }

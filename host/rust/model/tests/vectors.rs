@@ -1,6 +1,10 @@
 //! The model's answers to inputs that were worked out by hand.
 
-use waylluqen_model::{check_request, decode, space_holds, Request, Space, MAP, PAGE, UNMAP};
+use waylluqen_model::{check_request, decode, space_holds, Record, Request, Space, PAGE};
+
+/// The ops as a record has them.
+const MAP: u32 = 0;
+const UNMAP: u32 = 1;
 
 const LIMIT: u64 = 1 << 48;
 const LAST_PAGE: u64 = u64::MAX - PAGE + 1;
@@ -19,19 +23,7 @@ fn common() -> Space {
     space(0x10_0000, 0x10_0000, 0x14_0000, 0x4_0000)
 }
 
-fn request(op: u32, handle: u32, addr: u64, bo_offset: u64, range: u64) -> Request {
-    Request {
-        op,
-        flags: 0,
-        handle,
-        pad: 0,
-        addr,
-        bo_offset,
-        range,
-    }
-}
-
-fn answer(request: Request) -> u32 {
+fn answer(request: Record) -> u32 {
     check_request(&request.encode(), &common())
 }
 
@@ -43,35 +35,42 @@ fn fields_have_their_places() {
     }
     record[0..8].copy_from_slice(&[1, 0, 0, 0, 0, 0, 0, 0]);
     record[12..16].fill(0);
-    let expected = Request {
+    let request = Request {
+        op: 1,
+        address: 0x1716_1514_1312_1110,
+        size: 0x2726_2524_2322_2120,
+        object: 0x0b0a_0908,
+        offset: 0x1f1e_1d1c_1b1a_1918,
+    };
+    let fields = Record {
         op: UNMAP,
         flags: 0,
         handle: 0x0b0a_0908,
         pad: 0,
-        addr: 0x1716_1514_1312_1110,
-        bo_offset: 0x1f1e_1d1c_1b1a_1918,
-        range: 0x2726_2524_2322_2120,
+        addr: request.address,
+        bo_offset: request.offset,
+        range: request.size,
     };
-    assert_eq!(decode(&record), Ok(expected));
-    assert_eq!(expected.encode(), record);
+    assert_eq!(decode(&record), Ok(request));
+    assert_eq!(fields.encode(), record);
 }
 
 #[test]
 fn records_are_refused() {
-    let good = request(MAP, 7, 0x10_0000, 0, PAGE);
+    let good = Record::plain(MAP, 7, 0x10_0000, 0, PAGE);
     let record = good.encode();
-    assert_eq!(decode(&record), Ok(good));
+    assert_eq!(decode(&record), Ok(good.request()));
     assert_eq!(decode(&record[..39]), Err(12));
     assert_eq!(decode(&[record, record].concat()), Err(12));
     assert_eq!(decode(&[]), Err(12));
-    let two_wrong = Request {
+    let two_wrong = Record {
         op: 2,
         flags: 1,
         ..good
     };
     assert_eq!(decode(&two_wrong.encode()), Err(13));
-    assert_eq!(decode(&Request { flags: 1, ..good }.encode()), Err(14));
-    assert_eq!(decode(&Request { pad: 1, ..good }.encode()), Err(14));
+    assert_eq!(decode(&Record { flags: 1, ..good }.encode()), Err(14));
+    assert_eq!(decode(&Record { pad: 1, ..good }.encode()), Err(14));
 }
 
 #[test]
@@ -100,39 +99,54 @@ fn spaces_that_do_not_hold() {
 
 #[test]
 fn ranges() {
-    assert_eq!(answer(request(MAP, 7, 0x10_0000, 0, 0)), 6);
-    assert_eq!(answer(request(MAP, 7, 0x30_0000, 0, 0)), 6);
-    assert_eq!(answer(request(MAP, 7, 0x10_0001, 0, PAGE)), 6);
-    assert_eq!(answer(request(MAP, 7, 0x1f_f000, 0, PAGE)), 0);
-    assert_eq!(answer(request(MAP, 7, 0x1f_f000, 0, 2 * PAGE)), 7);
-    assert_eq!(answer(request(MAP, 7, LAST_PAGE, 0, 2 * PAGE)), 7);
-    assert_eq!(answer(request(MAP, 7, 0x13_f000, 0, PAGE)), 0);
-    assert_eq!(answer(request(MAP, 7, 0x13_f000, 0, 2 * PAGE)), 8);
-    assert_eq!(answer(request(UNMAP, 0, 0x17_f000, 0, 2 * PAGE)), 8);
-    assert_eq!(answer(request(UNMAP, 0, 0x18_0000, 0, PAGE)), 0);
+    assert_eq!(answer(Record::plain(MAP, 7, 0x10_0000, 0, 0)), 6);
+    assert_eq!(answer(Record::plain(MAP, 7, 0x30_0000, 0, 0)), 6);
+    assert_eq!(answer(Record::plain(MAP, 7, 0x10_0001, 0, PAGE)), 6);
+    assert_eq!(answer(Record::plain(MAP, 7, 0x1f_f000, 0, PAGE)), 0);
+    assert_eq!(answer(Record::plain(MAP, 7, 0x1f_f000, 0, 2 * PAGE)), 7);
+    assert_eq!(answer(Record::plain(MAP, 7, LAST_PAGE, 0, 2 * PAGE)), 7);
+    assert_eq!(answer(Record::plain(MAP, 7, 0x13_f000, 0, PAGE)), 0);
+    assert_eq!(answer(Record::plain(MAP, 7, 0x13_f000, 0, 2 * PAGE)), 8);
+    assert_eq!(answer(Record::plain(UNMAP, 0, 0x17_f000, 0, 2 * PAGE)), 8);
+    assert_eq!(answer(Record::plain(UNMAP, 0, 0x18_0000, 0, PAGE)), 0);
 }
 
 #[test]
 fn objects_and_offsets() {
-    assert_eq!(answer(request(MAP, 0, 0x10_0000, 0, PAGE)), 9);
-    assert_eq!(answer(request(MAP, u32::MAX, 0x10_0000, 0, PAGE)), 0);
-    assert_eq!(answer(request(UNMAP, 7, 0x10_0000, 0, PAGE)), 9);
-    assert_eq!(answer(request(UNMAP, 0, 0x10_0000, 1, PAGE)), 6);
-    assert_eq!(answer(request(UNMAP, 0, 0x10_0000, PAGE, PAGE)), 9);
+    assert_eq!(answer(Record::plain(MAP, 0, 0x10_0000, 0, PAGE)), 9);
+    assert_eq!(answer(Record::plain(MAP, u32::MAX, 0x10_0000, 0, PAGE)), 0);
+    assert_eq!(answer(Record::plain(UNMAP, 7, 0x10_0000, 0, PAGE)), 9);
+    assert_eq!(answer(Record::plain(UNMAP, 0, 0x10_0000, 1, PAGE)), 6);
+    assert_eq!(answer(Record::plain(UNMAP, 0, 0x10_0000, PAGE, PAGE)), 9);
     let highest = LIMIT - PAGE;
-    assert_eq!(answer(request(MAP, 7, 0x10_0000, highest, PAGE)), 0);
-    assert_eq!(answer(request(MAP, 7, 0x10_0000, highest, 2 * PAGE)), 10);
-    assert_eq!(answer(request(MAP, 7, 0x10_0000, LAST_PAGE, PAGE)), 10);
-    assert_eq!(answer(request(MAP, 7, 0x10_0000, LAST_PAGE, 2 * PAGE)), 10);
+    assert_eq!(answer(Record::plain(MAP, 7, 0x10_0000, highest, PAGE)), 0);
+    assert_eq!(
+        answer(Record::plain(MAP, 7, 0x10_0000, highest, 2 * PAGE)),
+        10
+    );
+    assert_eq!(
+        answer(Record::plain(MAP, 7, 0x10_0000, LAST_PAGE, PAGE)),
+        10
+    );
+    assert_eq!(
+        answer(Record::plain(MAP, 7, 0x10_0000, LAST_PAGE, 2 * PAGE)),
+        10
+    );
 }
 
 #[test]
 fn space_comes_after_the_record() {
     let bad = space(1, 0, 0, 0);
-    let good = request(MAP, 7, 0x10_0000, 0, PAGE);
+    let good = Record::plain(MAP, 7, 0x10_0000, 0, PAGE);
     assert_eq!(check_request(&good.encode(), &bad), 1);
     assert_eq!(check_request(&[], &bad), 12);
     // The op is looked at before the space, and the space before the rest of the request.
-    assert_eq!(check_request(&request(2, 0, 1, 1, 0).encode(), &bad), 13);
-    assert_eq!(check_request(&request(MAP, 0, 1, 1, 0).encode(), &bad), 1);
+    assert_eq!(
+        check_request(&Record::plain(2, 0, 1, 1, 0).encode(), &bad),
+        13
+    );
+    assert_eq!(
+        check_request(&Record::plain(MAP, 0, 1, 1, 0).encode(), &bad),
+        1
+    );
 }

@@ -1,5 +1,8 @@
 //! Spaces and numbers for the comparisons: good ones, and those at and beside the boundaries.
 
+// Each of the comparisons takes what it needs.
+#![allow(dead_code)]
+
 use waylluqen_model::random::Random;
 use waylluqen_model::{Space, PAGE};
 

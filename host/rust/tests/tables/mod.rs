@@ -1,8 +1,22 @@
 //! Tables for the comparisons: good ones, ways to damage them, and the addresses in them.
 
-use crate::common::{edge, good_space, size_to_edge, DELTAS, LIMIT};
+// Each of the comparisons takes what it needs.
+#![allow(dead_code)]
+
+use crate::common::{edge, good_space, other64, size_to_edge, space_of, DELTAS, LIMIT};
 use waylluqen_model::random::Random;
 use waylluqen_model::{Mapping, Space, HIGHEST_OBJECT, MAPPING_WORDS, MOST_MAPPINGS, PAGE};
+
+pub const MOST_WORDS: usize = MOST_MAPPINGS * MAPPING_WORDS;
+pub const LONGEST_TABLE: usize = 2 * MOST_WORDS;
+
+/// A space and a table for it: any numbers and any words.
+#[derive(Clone)]
+pub struct Table {
+    pub space: Space,
+    pub words: Vec<u64>,
+    pub count: u64,
+}
 
 /// A space that keeps its rules, and mappings in it that keep theirs.
 #[derive(Clone)]
@@ -21,7 +35,7 @@ impl Good {
 }
 
 /// What is below the reservation and what is above it, as (start, end).
-fn free_parts(space: &Space) -> [(u64, u64); 2] {
+pub fn free_parts(space: &Space) -> [(u64, u64); 2] {
     let end = space.start + space.size;
     if space.reserved_size == 0 {
         return [(space.start, end), (end, end)];
@@ -71,11 +85,11 @@ pub fn fill_space(random: &mut Random, space: Space, most: u64) -> Good {
     Good { space, mappings }
 }
 
-/// A good space with 1 to 512 mappings.
-pub fn good_table(random: &mut Random) -> Good {
+/// A good space with 1 to `largest` mappings.
+pub fn good_table(random: &mut Random, largest: u64) -> Good {
     loop {
         let space = good_space(random);
-        let most = 1 + random.up_to(MOST_MAPPINGS as u64 - 1);
+        let most = 1 + random.up_to(largest - 1);
         let good = fill_space(random, space, most);
         if !good.mappings.is_empty() {
             return good;
@@ -199,6 +213,79 @@ fn move_to_neighbour(random: &mut Random, _: &Space, words: &mut [u64], at: usiz
     }
 }
 
+/// Another count: about the number of mappings, the capacity and the words, or any.
+pub fn other_count(random: &mut Random, mappings: u64, words: u64) -> u64 {
+    let capacity = words / MAPPING_WORDS as u64;
+    let near = random.pick(&[0, mappings, capacity, words, 1 << 32, 1 << 62]);
+    match random.below(8) {
+        0 => random.next_u64(),
+        1 => random.below(capacity + 1),
+        // What multiplied by four is right again in 64 bits.
+        2 => mappings + (1 << 62) * random.below(4),
+        3 => u64::MAX,
+        4 => near.wrapping_sub(1),
+        5 => near + 1,
+        _ => near,
+    }
+}
+
+/// Another length: short, beside the present one, about the longest, or longer.
+pub fn other_length(random: &mut Random, present: usize) -> usize {
+    match random.below(6) {
+        0 => random.below(9) as usize,
+        1 => present + 1 + random.below(8) as usize,
+        2 => present.saturating_sub(1 + random.below(8) as usize),
+        3 => MOST_WORDS - 8 + random.below(17) as usize,
+        4 => MOST_WORDS + MAPPING_WORDS,
+        _ => random.below(LONGEST_TABLE as u64) as usize,
+    }
+}
+
+/// Damages one word or mapping, anywhere in the table.
+pub fn damage(random: &mut Random, good: &Good, words: &mut [u64]) {
+    let mappings = good.mappings.len();
+    let place = match random.below(4) {
+        0 => 0,
+        1 => mappings - 1,
+        _ => random.below(mappings as u64) as usize,
+    };
+    let at = place * MAPPING_WORDS + random.below(MAPPING_WORDS as u64) as usize;
+    let (_, damage) = random.pick(&DAMAGES);
+    damage(
+        random,
+        &good.space,
+        &mut words[..mappings * MAPPING_WORDS],
+        at,
+    );
+}
+
+/// Any space, and words of which many are multiples of a page or at an edge.
+pub fn any_table(random: &mut Random) -> Table {
+    let space = match random.below(8) {
+        0 => space_of([0; 4].map(|_| random.next_u64())),
+        _ => good_space(random),
+    };
+    let length = match random.below(8) {
+        0 => random.below(40),
+        1 => random.below(LONGEST_TABLE as u64),
+        _ => MAPPING_WORDS as u64 * (1 + random.below(8)),
+    };
+    // Random numbers alone would almost never be multiples of a page.
+    let word = |_| match random.below(4) {
+        0 => random.next_u64() >> random.below(64),
+        1 => random.below(64) * PAGE,
+        2 => space.start.wrapping_add(random.below(64) * PAGE),
+        _ => other64(random, &space, 0),
+    };
+    let words = (0..length).map(word).collect();
+    let count = other_count(random, 1, length);
+    Table {
+        space,
+        words,
+        count,
+    }
+}
+
 /// The bytes at both ends of `[start, start + size)`, and those beside them; any numbers.
 fn ends(start: u64, size: u64) -> [u64; 6] {
     let end = start.wrapping_add(size);
@@ -238,4 +325,28 @@ pub fn any_address(random: &mut Random, good: &Good) -> u64 {
         6 => edge(random, &good.space),
         _ => random.next_u64() >> random.below(64),
     }
+}
+
+/// Spaces with and without a reservation, at both ends of all that there is.
+pub fn plain_spaces() -> [Space; 6] {
+    [
+        [0, LIMIT, 0, 0],
+        [0, LIMIT, 1 << 32, 1 << 32],
+        [0, 4096 * PAGE, 0, PAGE],
+        [LIMIT - 2048 * PAGE, 2048 * PAGE, LIMIT - PAGE, PAGE],
+        [16 * PAGE, 600 * PAGE, 300 * PAGE, PAGE],
+        [16 * PAGE, 512 * PAGE, 0, 0],
+    ]
+    .map(space_of)
+}
+
+/// Spaces of a few pages, so that every sum is near every boundary.
+pub fn small_spaces() -> [Space; 4] {
+    [
+        [4 * PAGE, 8 * PAGE, 8 * PAGE, 2 * PAGE],
+        [4 * PAGE, 8 * PAGE, 0, 0],
+        [0, 8 * PAGE, 0, 2 * PAGE],
+        [LIMIT - 8 * PAGE, 8 * PAGE, LIMIT - 2 * PAGE, 2 * PAGE],
+    ]
+    .map(space_of)
 }

@@ -1,0 +1,759 @@
+/* How a driver maps and unmaps, and the test of it: tables of cases with all that they leave. */
+#define _DEFAULT_SOURCE /* for MAP_ANONYMOUS */
+
+#include <inttypes.h>
+#include <stdint.h>
+#include <stdio.h>
+#include <string.h>
+
+#include "support.h"
+
+#define OPERATION_WORDS WAYLLUQEN_OPERATION_WORDS
+#define LONGEST_LIST ((LONGEST_TABLE / MAPPING_WORDS + 2) * OPERATION_WORDS)
+#define LONGEST_RECORD 80
+/* The most mappings and operations that a case writes out. */
+#define MOST_WRITTEN 6
+
+struct operation {
+    uint64_t kind;
+    uint64_t keep;
+    struct mapping named;
+    struct mapping lower;
+    struct mapping upper;
+};
+
+_Static_assert(sizeof(waylluqen_request) == 40, "five words, without a gap");
+_Static_assert(sizeof(waylluqen_answer) == 32, "four words, without a gap");
+_Static_assert(sizeof(struct mapping) == MAPPING_WORDS * sizeof(uint64_t), "its words");
+_Static_assert(sizeof(struct operation) == OPERATION_WORDS * sizeof(uint64_t), "its words");
+
+/* A request on a table in a space, the answer, and what a grant leaves. */
+struct test_case {
+    const char *name;
+    waylluqen_space space;
+    waylluqen_request request;
+    waylluqen_answer expected;
+    uint64_t count;
+    size_t table_words;
+    struct mapping old[MOST_WRITTEN];
+    struct mapping new[MOST_WRITTEN];
+    struct operation list[MOST_WRITTEN];
+    int more_words; /* operation words lent beyond the least that will do */
+};
+
+/* The drawings' space, and a mapping there: pages [first, end), object, page of the object. */
+#define DRAWN {0, 16 * PAGE, 0, 0}
+#define P(first, end, object, offset) \
+    {(first) * PAGE, ((end) - (first)) * PAGE, object, (offset) * PAGE}
+
+/* Requests: in pages, and in bytes as the structure has them. */
+#define MAP(first, end, object, offset) \
+    {WAYLLUQEN_OP_MAP, (first) * PAGE, ((end) - (first)) * PAGE, object, (offset) * PAGE}
+#define UNMAP(first, end) {WAYLLUQEN_OP_UNMAP, (first) * PAGE, ((end) - (first)) * PAGE, 0, 0}
+#define REQUEST(...) {__VA_ARGS__}
+/* A map and an unmap of the first page in the common space, with which nothing is wrong. */
+#define GOOD_MAP {WAYLLUQEN_OP_MAP, 0x100000, PAGE, 5, 0}
+#define GOOD_UNMAP {WAYLLUQEN_OP_UNMAP, 0x100000, PAGE, 0, 0}
+
+#define GRANTED(operations, count) {0, 0, operations, count}
+#define REFUSED(number, count) {number, 0, 0, count}
+#define BAD_PLACE(place, count) {WAYLLUQEN_BAD_MAPPING, place, 0, count}
+
+#define NONE {0, 0, 0, 0}
+#define MAPS(new) {WAYLLUQEN_KIND_MAP, 0, new, NONE, NONE}
+#define UNMAPS(keep, old) {WAYLLUQEN_KIND_UNMAP, keep, old, NONE, NONE}
+#define REMAPS(keep, old, lower, upper) {WAYLLUQEN_KIND_REMAP, keep, old, lower, upper}
+
+/* The number of mappings before, and how many there is room for. */
+#define ROOM(count, capacity) count, (capacity) * MAPPING_WORDS
+#define LIST(...) {__VA_ARGS__}
+
+/* In pages: one old mapping, or none, in room for eight. */
+#define OVER_ONE(name, request, expected, old, new, list) \
+    {name, DRAWN, request, expected, ROOM(1, 8), {old}, new, list, 0}
+#define OVER_NONE(name, request, expected, new, list) \
+    {name, DRAWN, request, expected, ROOM(0, 8), {NONE}, new, list, 0}
+
+static const struct test_case grants[] = {
+    /* The drawings. */
+    OVER_ONE("P1", MAP(0, 1, 7, 1), GRANTED(2, 1), P(0, 1, 7, 1), LIST(P(0, 1, 7, 1)),
+             LIST(UNMAPS(1, P(0, 1, 7, 1)), MAPS(P(0, 1, 7, 1)))),
+    OVER_ONE("P2", MAP(1, 2, 9, 4), GRANTED(2, 2), P(0, 2, 7, 1),
+             LIST(P(0, 1, 7, 1), P(1, 2, 9, 4)),
+             LIST(REMAPS(0, P(0, 2, 7, 1), P(0, 1, 7, 1), NONE), MAPS(P(1, 2, 9, 4)))),
+    OVER_ONE("P3", MAP(0, 1, 9, 4), GRANTED(2, 2), P(0, 2, 7, 1),
+             LIST(P(0, 1, 9, 4), P(1, 2, 7, 2)),
+             LIST(REMAPS(0, P(0, 2, 7, 1), NONE, P(1, 2, 7, 2)), MAPS(P(0, 1, 9, 4)))),
+    OVER_ONE("P4", MAP(1, 2, 9, 4), GRANTED(2, 3), P(0, 3, 7, 1),
+             LIST(P(0, 1, 7, 1), P(1, 2, 9, 4), P(2, 3, 7, 3)),
+             LIST(REMAPS(0, P(0, 3, 7, 1), P(0, 1, 7, 1), P(2, 3, 7, 3)), MAPS(P(1, 2, 9, 4)))),
+    OVER_ONE("P5", MAP(1, 3, 9, 4), GRANTED(2, 2), P(0, 2, 7, 1),
+             LIST(P(0, 1, 7, 1), P(1, 3, 9, 4)),
+             LIST(REMAPS(0, P(0, 2, 7, 1), P(0, 1, 7, 1), NONE), MAPS(P(1, 3, 9, 4)))),
+    OVER_ONE("P6", MAP(0, 2, 9, 4), GRANTED(2, 2), P(1, 3, 7, 1),
+             LIST(P(0, 2, 9, 4), P(2, 3, 7, 2)),
+             LIST(REMAPS(0, P(1, 3, 7, 1), NONE, P(2, 3, 7, 2)), MAPS(P(0, 2, 9, 4)))),
+    OVER_ONE("P7", MAP(0, 3, 9, 4), GRANTED(2, 1), P(1, 2, 7, 1), LIST(P(0, 3, 9, 4)),
+             LIST(UNMAPS(0, P(1, 2, 7, 1)), MAPS(P(0, 3, 9, 4)))),
+    OVER_ONE("P8", UNMAP(1, 2), GRANTED(1, 2), P(0, 3, 7, 1), LIST(P(0, 1, 7, 1), P(2, 3, 7, 3)),
+             LIST(REMAPS(0, P(0, 3, 7, 1), P(0, 1, 7, 1), P(2, 3, 7, 3)))),
+    OVER_ONE("P9", MAP(1, 2, 7, 2), GRANTED(1, 2), P(0, 1, 7, 1),
+             LIST(P(0, 1, 7, 1), P(1, 2, 7, 2)), LIST(MAPS(P(1, 2, 7, 2)))),
+    OVER_NONE("P10", UNMAP(3, 4), GRANTED(0, 0), {NONE}, {MAPS(NONE)}),
+    {"P4 in room for three", DRAWN, MAP(1, 2, 9, 4), GRANTED(2, 3), ROOM(1, 3), {P(0, 3, 7, 1)},
+     {P(0, 1, 7, 1), P(1, 2, 9, 4), P(2, 3, 7, 3)},
+     {REMAPS(0, P(0, 3, 7, 1), P(0, 1, 7, 1), P(2, 3, 7, 3)), MAPS(P(1, 2, 9, 4))}, 0},
+    OVER_NONE("the last page", MAP(15, 16, 9, 0), GRANTED(1, 1), LIST(P(15, 16, 9, 0)),
+              LIST(MAPS(P(15, 16, 9, 0)))),
+
+    /* The drawings of the first patch, without joining, that are not among those above. */
+    OVER_ONE("drawing 2", MAP(0, 1, 7, 4), GRANTED(2, 1), P(0, 1, 7, 1), LIST(P(0, 1, 7, 4)),
+             LIST(UNMAPS(0, P(0, 1, 7, 1)), MAPS(P(0, 1, 7, 4)))),
+    OVER_ONE("drawing 3", MAP(0, 1, 9, 1), GRANTED(2, 1), P(0, 1, 7, 1), LIST(P(0, 1, 9, 1)),
+             LIST(UNMAPS(0, P(0, 1, 7, 1)), MAPS(P(0, 1, 9, 1)))),
+    OVER_ONE("drawing 4", MAP(0, 2, 7, 1), GRANTED(2, 1), P(0, 1, 7, 1), LIST(P(0, 2, 7, 1)),
+             LIST(UNMAPS(1, P(0, 1, 7, 1)), MAPS(P(0, 2, 7, 1)))),
+    OVER_ONE("drawing 5", MAP(0, 1, 9, 1), GRANTED(2, 2), P(0, 2, 7, 1),
+             LIST(P(0, 1, 9, 1), P(1, 2, 7, 2)),
+             LIST(REMAPS(0, P(0, 2, 7, 1), NONE, P(1, 2, 7, 2)), MAPS(P(0, 1, 9, 1)))),
+    OVER_ONE("drawing 6", MAP(0, 1, 7, 1), GRANTED(2, 2), P(0, 2, 7, 1),
+             LIST(P(0, 1, 7, 1), P(1, 2, 7, 2)),
+             LIST(REMAPS(1, P(0, 2, 7, 1), NONE, P(1, 2, 7, 2)), MAPS(P(0, 1, 7, 1)))),
+    OVER_ONE("drawing 8", MAP(1, 2, 7, 2), GRANTED(2, 2), P(0, 2, 7, 1),
+             LIST(P(0, 1, 7, 1), P(1, 2, 7, 2)),
+             LIST(REMAPS(0, P(0, 2, 7, 1), P(0, 1, 7, 1), NONE), MAPS(P(1, 2, 7, 2)))),
+    OVER_ONE("drawing 10", MAP(1, 3, 7, 2), GRANTED(2, 2), P(0, 2, 7, 1),
+             LIST(P(0, 1, 7, 1), P(1, 3, 7, 2)),
+             LIST(REMAPS(0, P(0, 2, 7, 1), P(0, 1, 7, 1), NONE), MAPS(P(1, 3, 7, 2)))),
+    OVER_ONE("drawing 12", MAP(1, 2, 7, 2), GRANTED(2, 3), P(0, 3, 7, 1),
+             LIST(P(0, 1, 7, 1), P(1, 2, 7, 2), P(2, 3, 7, 3)),
+             LIST(REMAPS(0, P(0, 3, 7, 1), P(0, 1, 7, 1), P(2, 3, 7, 3)), MAPS(P(1, 2, 7, 2)))),
+    OVER_ONE("drawing 13", MAP(0, 2, 7, 1), GRANTED(2, 1), P(1, 2, 7, 1), LIST(P(0, 2, 7, 1)),
+             LIST(UNMAPS(0, P(1, 2, 7, 1)), MAPS(P(0, 2, 7, 1)))),
+    OVER_ONE("drawing 14", MAP(0, 3, 7, 1), GRANTED(2, 1), P(1, 2, 7, 1), LIST(P(0, 3, 7, 1)),
+             LIST(UNMAPS(0, P(1, 2, 7, 1)), MAPS(P(0, 3, 7, 1)))),
+    {"drawing 16", DRAWN, MAP(1, 2, 7, 2), GRANTED(1, 3), ROOM(2, 8),
+     {P(0, 1, 7, 1), P(2, 3, 7, 3)}, {P(0, 1, 7, 1), P(1, 2, 7, 2), P(2, 3, 7, 3)},
+     {MAPS(P(1, 2, 7, 2))}, 0},
+
+    /* Misfilings: a neighbour that touches is not hit, on either side or on both. */
+    OVER_ONE("touches from above", MAP(2, 3, 9, 0), GRANTED(1, 2), P(0, 2, 7, 1),
+             LIST(P(0, 2, 7, 1), P(2, 3, 9, 0)), LIST(MAPS(P(2, 3, 9, 0)))),
+    OVER_ONE("touches from below", MAP(0, 2, 9, 0), GRANTED(1, 2), P(2, 4, 7, 1),
+             LIST(P(0, 2, 9, 0), P(2, 4, 7, 1)), LIST(MAPS(P(0, 2, 9, 0)))),
+    OVER_ONE("unmap touches from above", UNMAP(2, 3), GRANTED(0, 1), P(0, 2, 7, 1),
+             LIST(P(0, 2, 7, 1)), {MAPS(NONE)}),
+    OVER_ONE("unmap touches from below", UNMAP(0, 2), GRANTED(0, 1), P(2, 4, 7, 1),
+             LIST(P(2, 4, 7, 1)), {MAPS(NONE)}),
+    OVER_ONE("shares its last page", UNMAP(1, 3), GRANTED(1, 1), P(0, 2, 7, 1), LIST(P(0, 1, 7, 1)),
+             LIST(REMAPS(0, P(0, 2, 7, 1), P(0, 1, 7, 1), NONE))),
+    OVER_ONE("shares its first page", UNMAP(0, 3), GRANTED(1, 1), P(2, 4, 7, 1),
+             LIST(P(3, 4, 7, 2)), LIST(REMAPS(0, P(2, 4, 7, 1), NONE, P(3, 4, 7, 2)))),
+    /* Misfilings: an upper rest's offset moves with its address, not by the request's size. */
+    OVER_ONE("upper rest behind three pages", UNMAP(1, 4), GRANTED(1, 1), P(2, 8, 7, 5),
+             LIST(P(4, 8, 7, 7)), LIST(REMAPS(0, P(2, 8, 7, 5), NONE, P(4, 8, 7, 7)))),
+    OVER_ONE("upper rest in the middle", UNMAP(4, 6), GRANTED(1, 2), P(1, 8, 7, 5),
+             LIST(P(1, 4, 7, 5), P(6, 8, 7, 10)),
+             LIST(REMAPS(0, P(1, 8, 7, 5), P(1, 4, 7, 5), P(6, 8, 7, 10)))),
+    /* Misfilings: what a map frees is room for it. */
+    {"over all of a full table", DRAWN, MAP(0, 4, 9, 0), GRANTED(3, 1), ROOM(2, 2),
+     {P(0, 1, 7, 1), P(2, 4, 8, 1)}, {P(0, 4, 9, 0)},
+     {UNMAPS(0, P(0, 1, 7, 1)), UNMAPS(0, P(2, 4, 8, 1)), MAPS(P(0, 4, 9, 0))}, 0},
+    {"over one of a full table", DRAWN, MAP(2, 4, 9, 0), GRANTED(2, 2), ROOM(2, 2),
+     {P(0, 1, 7, 1), P(2, 4, 8, 1)}, {P(0, 1, 7, 1), P(2, 4, 9, 0)},
+     {UNMAPS(0, P(2, 4, 8, 1)), MAPS(P(2, 4, 9, 0))}, 0},
+    {"one goes and one is cut in a full table", DRAWN, MAP(0, 3, 9, 0), GRANTED(3, 2), ROOM(2, 2),
+     {P(0, 1, 7, 1), P(2, 4, 8, 1)}, {P(0, 3, 9, 0), P(3, 4, 8, 2)},
+     {UNMAPS(0, P(0, 1, 7, 1)), REMAPS(0, P(2, 4, 8, 1), NONE, P(3, 4, 8, 2)),
+      MAPS(P(0, 3, 9, 0))}, 0},
+    {"the only one of room for one", DRAWN, MAP(0, 3, 9, 0), GRANTED(2, 1), ROOM(1, 1),
+     {P(0, 1, 7, 1)}, {P(0, 3, 9, 0)}, {UNMAPS(0, P(0, 1, 7, 1)), MAPS(P(0, 3, 9, 0))}, 0},
+
+    /* Several hit: the first and the last keep a rest, those between go; others stay. */
+    {"map over several", DRAWN, MAP(3, 9, 9, 4), GRANTED(4, 5), ROOM(5, 8),
+     {P(0, 1, 5, 0), P(2, 4, 7, 1), P(4, 5, 8, 0), P(8, 10, 7, 6), P(11, 12, 5, 0)},
+     {P(0, 1, 5, 0), P(2, 3, 7, 1), P(3, 9, 9, 4), P(9, 10, 7, 7), P(11, 12, 5, 0)},
+     {REMAPS(0, P(2, 4, 7, 1), P(2, 3, 7, 1), NONE), UNMAPS(0, P(4, 5, 8, 0)),
+      REMAPS(0, P(8, 10, 7, 6), NONE, P(9, 10, 7, 7)), MAPS(P(3, 9, 9, 4))}, 0},
+    {"unmap over several", DRAWN, UNMAP(3, 9), GRANTED(3, 4), ROOM(5, 5),
+     {P(0, 1, 5, 0), P(2, 4, 7, 1), P(4, 5, 8, 0), P(8, 10, 7, 6), P(11, 12, 5, 0)},
+     {P(0, 1, 5, 0), P(2, 3, 7, 1), P(9, 10, 7, 7), P(11, 12, 5, 0)},
+     {REMAPS(0, P(2, 4, 7, 1), P(2, 3, 7, 1), NONE), UNMAPS(0, P(4, 5, 8, 0)),
+      REMAPS(0, P(8, 10, 7, 6), NONE, P(9, 10, 7, 7))}, 0},
+    {"unmap of all", DRAWN, UNMAP(0, 16), GRANTED(2, 0), ROOM(2, 4), {P(0, 1, 7, 1), P(2, 4, 8, 1)},
+     {NONE}, {UNMAPS(0, P(0, 1, 7, 1)), UNMAPS(0, P(2, 4, 8, 1))}, 0},
+    {"into a gap", DRAWN, MAP(2, 3, 9, 0), GRANTED(1, 3), ROOM(2, 3),
+     {P(0, 1, 7, 1), P(4, 5, 8, 1)}, {P(0, 1, 7, 1), P(2, 3, 9, 0), P(4, 5, 8, 1)},
+     {MAPS(P(2, 3, 9, 0))}, 0},
+    {"in front of all", DRAWN, MAP(0, 1, 9, 0), GRANTED(1, 3), ROOM(2, 3),
+     {P(2, 3, 7, 1), P(4, 5, 8, 1)}, {P(0, 1, 9, 0), P(2, 3, 7, 1), P(4, 5, 8, 1)},
+     {MAPS(P(0, 1, 9, 0))}, 0},
+
+    /* Keep: address, object and offset, but not the size; never for an unmap. */
+    OVER_ONE("keep, a wider map", MAP(1, 4, 7, 1), GRANTED(2, 1), P(1, 3, 7, 1),
+             LIST(P(1, 4, 7, 1)), LIST(UNMAPS(1, P(1, 3, 7, 1)), MAPS(P(1, 4, 7, 1)))),
+    OVER_ONE("no keep, another address", MAP(1, 4, 7, 1), GRANTED(2, 1), P(2, 3, 7, 1),
+             LIST(P(1, 4, 7, 1)), LIST(UNMAPS(0, P(2, 3, 7, 1)), MAPS(P(1, 4, 7, 1)))),
+    OVER_ONE("no keep, another address, cut", MAP(2, 4, 7, 1), GRANTED(2, 2), P(1, 3, 7, 1),
+             LIST(P(1, 2, 7, 1), P(2, 4, 7, 1)),
+             LIST(REMAPS(0, P(1, 3, 7, 1), P(1, 2, 7, 1), NONE), MAPS(P(2, 4, 7, 1)))),
+    OVER_ONE("no keep, another object", MAP(1, 3, 8, 1), GRANTED(2, 1), P(1, 3, 7, 1),
+             LIST(P(1, 3, 8, 1)), LIST(UNMAPS(0, P(1, 3, 7, 1)), MAPS(P(1, 3, 8, 1)))),
+    OVER_ONE("no keep, another offset", MAP(1, 3, 7, 2), GRANTED(2, 1), P(1, 3, 7, 1),
+             LIST(P(1, 3, 7, 2)), LIST(UNMAPS(0, P(1, 3, 7, 1)), MAPS(P(1, 3, 7, 2)))),
+    OVER_ONE("no keep, objects alike in 16 bits", MAP(1, 3, 0x10007, 1), GRANTED(2, 1),
+             P(1, 3, 7, 1), LIST(P(1, 3, 0x10007, 1)),
+             LIST(UNMAPS(0, P(1, 3, 7, 1)), MAPS(P(1, 3, 0x10007, 1)))),
+    OVER_ONE("no keep, offsets alike in 32 bits", MAP(1, 3, 7, 0x100001), GRANTED(2, 1),
+             P(1, 3, 7, 1), LIST(P(1, 3, 7, 0x100001)),
+             LIST(UNMAPS(0, P(1, 3, 7, 1)), MAPS(P(1, 3, 7, 0x100001)))),
+    OVER_ONE("no keep, unmap", UNMAP(1, 3), GRANTED(1, 0), P(1, 3, 7, 0), {NONE},
+             LIST(UNMAPS(0, P(1, 3, 7, 0)))),
+    {"keep of the first of two", DRAWN, MAP(1, 4, 7, 1), GRANTED(3, 1), ROOM(2, 2),
+     {P(1, 2, 7, 1), P(2, 4, 7, 2)}, {P(1, 4, 7, 1)},
+     {UNMAPS(1, P(1, 2, 7, 1)), UNMAPS(0, P(2, 4, 7, 2)), MAPS(P(1, 4, 7, 1))}, 0},
+
+    /* Just not refused: 1 and 7, at both ends of all that there is. */
+    {"all there is", WIDEST, REQUEST(0, 0, LIMIT, 7, 0), GRANTED(1, 1), ROOM(0, 1), {NONE},
+     {{0, LIMIT, 7, 0}}, {MAPS(LIST(0, LIMIT, 7, 0))}, 0},
+    {"the last page of all", WIDEST, REQUEST(0, LIMIT - PAGE, PAGE, HIGHEST_OBJECT, LIMIT - PAGE),
+     GRANTED(2, 2), ROOM(1, 2), {{0, LIMIT, 7, 0}},
+     {{0, LIMIT - PAGE, 7, 0}, {LIMIT - PAGE, PAGE, HIGHEST_OBJECT, LIMIT - PAGE}},
+     {REMAPS(0, LIST(0, LIMIT, 7, 0), LIST(0, LIMIT - PAGE, 7, 0), NONE),
+      MAPS(LIST(LIMIT - PAGE, PAGE, HIGHEST_OBJECT, LIMIT - PAGE))}, 0},
+    {"all but the first page of all", WIDEST, REQUEST(1, 0, PAGE, 0, 0), GRANTED(1, 1), ROOM(1, 1),
+     {{0, LIMIT, 7, 0}}, {{PAGE, LIMIT - PAGE, 7, PAGE}},
+     {REMAPS(0, LIST(0, LIMIT, 7, 0), NONE, LIST(PAGE, LIMIT - PAGE, 7, PAGE))}, 0},
+    {"first and last page of a space", FREE, REQUEST(1, 0x100000, 0x100000, 0, 0), GRANTED(0, 0),
+     ROOM(0, 1), {NONE}, {NONE}, {MAPS(NONE)}, 0},
+    /* 2 and 3: the longest table, and more operation words than are needed. */
+    {"room for 512", COMMON, GOOD_MAP, GRANTED(1, 1), ROOM(0, 512), {NONE},
+     {{0x100000, PAGE, 5, 0}}, {MAPS(LIST(0x100000, PAGE, 5, 0))}, 0},
+    {"a word more", COMMON, GOOD_MAP, GRANTED(1, 1), ROOM(0, 3), {NONE}, {{0x100000, PAGE, 5, 0}},
+     {MAPS(LIST(0x100000, PAGE, 5, 0))}, 1},
+    {"an operation more", COMMON, GOOD_UNMAP, GRANTED(0, 0), ROOM(0, 3), {NONE}, {NONE},
+     {MAPS(NONE)}, OPERATION_WORDS},
+    /* 4 and 5: a full table; words behind the count are not looked at, but cleared. */
+    {"a full table, nothing hit", COMMON, REQUEST(1, 0x104000, PAGE, 0, 0), GRANTED(0, 5),
+     ROOM(5, 5), FIVE, FIVE, {MAPS(NONE)}, 0},
+    {"bad words behind the count", COMMON, REQUEST(1, 0x104000, PAGE, 0, 0), GRANTED(0, 1),
+     ROOM(1, 2), {FIRST, ONES}, {FIRST}, {MAPS(NONE)}, 0},
+    {"only bad words behind the count", COMMON, GOOD_MAP, GRANTED(1, 1), ROOM(0, 2), {ONES, ONES},
+     {{0x100000, PAGE, 5, 0}}, {MAPS(LIST(0x100000, PAGE, 5, 0))}, 0},
+    /* 8: up to the reservation and from its end on. */
+    {"touches the reservation from below", COMMON, REQUEST(0, 0x13f000, PAGE, 5, 0), GRANTED(1, 1),
+     ROOM(0, 1), {NONE}, {{0x13f000, PAGE, 5, 0}}, {MAPS(LIST(0x13f000, PAGE, 5, 0))}, 0},
+    {"touches the reservation from above", COMMON, REQUEST(0, 0x180000, PAGE, 5, 0), GRANTED(1, 1),
+     ROOM(0, 1), {NONE}, {{0x180000, PAGE, 5, 0}}, {MAPS(LIST(0x180000, PAGE, 5, 0))}, 0},
+    {"nothing is reserved", FREE, REQUEST(0, 0x140000, PAGE, 5, 0), GRANTED(1, 1), ROOM(0, 1),
+     {NONE}, {{0x140000, PAGE, 5, 0}}, {MAPS(LIST(0x140000, PAGE, 5, 0))}, 0},
+    /* 9 and 10: the highest object and offset. */
+    {"lowest object", COMMON, REQUEST(0, 0x100000, PAGE, 1, 0), GRANTED(1, 1), ROOM(0, 1), {NONE},
+     {{0x100000, PAGE, 1, 0}}, {MAPS(LIST(0x100000, PAGE, 1, 0))}, 0},
+    {"highest object", COMMON, REQUEST(0, 0x100000, PAGE, HIGHEST_OBJECT, 0), GRANTED(1, 1),
+     ROOM(0, 1), {NONE}, {{0x100000, PAGE, HIGHEST_OBJECT, 0}},
+     {MAPS(LIST(0x100000, PAGE, HIGHEST_OBJECT, 0))}, 0},
+    {"highest offset", COMMON, REQUEST(0, 0x100000, 2 * PAGE, 5, LIMIT - 2 * PAGE), GRANTED(1, 1),
+     ROOM(0, 1), {NONE}, {{0x100000, 2 * PAGE, 5, LIMIT - 2 * PAGE}},
+     {MAPS(LIST(0x100000, 2 * PAGE, 5, LIMIT - 2 * PAGE))}, 0},
+    {"upper rest at the highest offset", COMMON, REQUEST(1, 0x100000, PAGE, 0, 0), GRANTED(1, 1),
+     ROOM(1, 1), {{0x100000, 2 * PAGE, 7, LIMIT - 2 * PAGE}}, {{0x101000, PAGE, 7, LIMIT - PAGE}},
+     {REMAPS(0, LIST(0x100000, 2 * PAGE, 7, LIMIT - 2 * PAGE), NONE,
+             LIST(0x101000, PAGE, 7, LIMIT - PAGE))}, 0},
+    /* 11: the last that there is room for. */
+    {"a hole in room for two", DRAWN, UNMAP(1, 2), GRANTED(1, 2), ROOM(1, 2), {P(0, 3, 7, 1)},
+     {P(0, 1, 7, 1), P(2, 3, 7, 3)},
+     {REMAPS(0, P(0, 3, 7, 1), P(0, 1, 7, 1), P(2, 3, 7, 3))}, 0},
+    {"a lower rest in a full table", DRAWN, UNMAP(1, 2), GRANTED(1, 1), ROOM(1, 1), {P(0, 2, 7, 1)},
+     {P(0, 1, 7, 1)}, {REMAPS(0, P(0, 2, 7, 1), P(0, 1, 7, 1), NONE)}, 0},
+};
+
+/* Refusals leave nothing behind: a request in a space, on written mappings. */
+struct refusal_case {
+    const char *name;
+    waylluqen_answer expected;
+    waylluqen_space space;
+    waylluqen_request request;
+    uint64_t count;
+    size_t table_words;
+    struct mapping old[MOST_WRITTEN];
+    int more_words;
+};
+
+/* In the common space with the five mappings: another request, another space. */
+#define ASKED(name, number, ...) \
+    {name, REFUSED(number, 5), COMMON, REQUEST(__VA_ARGS__), ROOM(5, 6), FIVE, 0}
+#define IN_SPACE(name, ...) {name, REFUSED(1, 5), SPACE(__VA_ARGS__), GOOD_MAP, ROOM(5, 6), FIVE, 0}
+/* One mapping that is at fault; five of which some are replaced. */
+#define ALONE(name, ...) {name, BAD_PLACE(0, 1), COMMON, GOOD_MAP, ROOM(1, 2), {{__VA_ARGS__}}, 0}
+#define OF_FIVE(name, place, ...) \
+    {name, BAD_PLACE(place, 5), COMMON, GOOD_MAP, ROOM(5, 6), {__VA_ARGS__}, 0}
+#define LENGTH(name, count, words) \
+    {name, REFUSED(2, count), COMMON, GOOD_MAP, count, words, FIVE, 0}
+#define SHORT(name, count, capacity, more) \
+    {name, REFUSED(3, count), COMMON, GOOD_MAP, ROOM(count, capacity), FIVE, more}
+#define COUNT(name, count) {name, REFUSED(4, count), COMMON, GOOD_MAP, ROOM(count, 5), FIVE, 0}
+#define FULL_UP(name, request, count, capacity, ...) \
+    {name, REFUSED(11, count), DRAWN, request, ROOM(count, capacity), {__VA_ARGS__}, 0}
+
+static const struct refusal_case refusals[] = {
+    /* 13: the op, all 64 bits of it. */
+    ASKED("op 2", 13, 2, 0x100000, PAGE, 0, 0),
+    ASKED("op 3", 13, 3, 0x100000, PAGE, 7, 0),
+    ASKED("op 256", 13, 256, 0x100000, PAGE, 7, 0),
+    ASKED("op 2^32", 13, UINT64_C(1) << 32, 0x100000, PAGE, 7, 0),
+    ASKED("op 2^32 + 1", 13, (UINT64_C(1) << 32) + 1, 0x100000, PAGE, 0, 0),
+    ASKED("highest op", 13, UINT64_MAX, 0x100000, PAGE, 0, 0),
+
+    /* 1: the space. */
+    IN_SPACE("start one above", 0x100001, 0x100000, 0x140000, 0x40000),
+    IN_SPACE("size one above", 0x100000, 0x100001, 0x140000, 0x40000),
+    IN_SPACE("reserved start one above", 0x100000, 0x100000, 0x140001, 0x40000),
+    IN_SPACE("reserved size one above", 0x100000, 0x100000, 0x140000, 0x40001),
+    IN_SPACE("space of size 0", 0x100000, 0, 0, 0),
+    IN_SPACE("ends a page above 2^48", 0x100000, LIMIT - 0x100000 + PAGE, 0, 0),
+    IN_SPACE("space ends above 2^64", LAST_PAGE, 0x102000, 0, 0),
+    IN_SPACE("reserved start alone", 0x100000, 0x100000, 0x140000, 0),
+    IN_SPACE("reserved below the space", 0x100000, 0x100000, 0xff000, PAGE),
+    IN_SPACE("reserved above the space", 0x100000, 0x100000, 0x200000, PAGE),
+
+    /* 2: the length. */
+    LENGTH("length 0", 0, 0),
+    LENGTH("length 1", 0, 1),
+    LENGTH("length 3", 0, 3),
+    LENGTH("length 5", 1, 5),
+    LENGTH("length 6", 1, 6),
+    LENGTH("length 2047", 5, 2047),
+    LENGTH("length 2049", 5, 2049),
+    LENGTH("length 2052", 5, 2052),
+    LENGTH("length 3000", 5, LONGEST_TABLE),
+
+    /* 3: the operation words, by what there is room for and not by the count. */
+    SHORT("a word less", 5, 6, -1),
+    SHORT("a word less, room for one", 1, 1, -1),
+    SHORT("a word less, no mapping", 0, 6, -1),
+    SHORT("an operation less", 5, 6, -OPERATION_WORDS),
+    SHORT("as many as mappings and a map", 5, 12, -6 * OPERATION_WORDS),
+    SHORT("a word less, room for 512", 5, 512, -1),
+    SHORT("none", 0, 1, -2 * OPERATION_WORDS),
+
+    /* 4: the count. */
+    COUNT("count a mapping above", 6),
+    COUNT("count of the words", 20),
+    COUNT("count 2^62 above", (UINT64_C(1) << 62) + 5),
+    COUNT("highest count", UINT64_MAX),
+
+    /* 5: the mappings. */
+    ALONE("mapping's address one above", 0x100001, PAGE, 7, 0),
+    ALONE("mapping's size 0", 0x100000, 0, 7, 0),
+    ALONE("mapping's size one above", 0x100000, PAGE + 1, 7, 0),
+    ALONE("mapping's offset one above", 0x100000, PAGE, 7, 1),
+    ALONE("mapping's object 0", 0x100000, PAGE, 0, 0),
+    ALONE("mapping's object 2^32", 0x100000, PAGE, HIGHEST_OBJECT + 1, 0),
+    ALONE("mapping's offset too high", 0x100000, 2 * PAGE, 7, LIMIT - PAGE),
+    ALONE("mapping's offset and size above 2^64", 0x100000, 2 * PAGE, 7, LAST_PAGE),
+    ALONE("mapping below the space", 0xff000, 2 * PAGE, 7, 0),
+    ALONE("mapping above the space", 0x1ff000, 2 * PAGE, 7, 0),
+    ALONE("mapping ends above 2^64", LAST_PAGE, 0x102000, 7, 0),
+    ALONE("mapping shares the first reserved page", 0x13f000, 2 * PAGE, 7, 0),
+    ALONE("mapping shares the last reserved page", 0x17f000, 2 * PAGE, 7, 0),
+    OF_FIVE("bad at 0", 0, ONES, SECOND, THIRD, FOURTH, LAST),
+    OF_FIVE("bad at 1", 1, FIRST, ONES, THIRD, FOURTH, LAST),
+    OF_FIVE("bad at 4", 4, FIRST, SECOND, THIRD, FOURTH, ONES),
+    OF_FIVE("bad at 1 and 3", 1, FIRST, ONES, THIRD, ONES, LAST),
+    OF_FIVE("two turned", 2, FIRST, THIRD, SECOND, FOURTH, LAST),
+    OF_FIVE("one twice", 4, FIRST, SECOND, THIRD, FOURTH, FOURTH),
+    {"sharing a page", BAD_PLACE(1, 2), COMMON, GOOD_MAP, ROOM(2, 4),
+     {{0x100000, 0x2000, 7, 0}, {0x101000, 0x2000, 7, 0}}, 0},
+
+    /* 6: multiples of a page, and size 0. */
+    ASKED("address one above", 6, 0, 0x100001, PAGE, 5, 0),
+    ASKED("size one above", 6, 0, 0x100000, PAGE + 1, 5, 0),
+    ASKED("size one below", 6, 0, 0x100000, PAGE - 1, 5, 0),
+    ASKED("offset one above", 6, 0, 0x100000, PAGE, 5, 1),
+    ASKED("size 0", 6, 0, 0x100000, 0, 5, 0),
+    ASKED("size 0 and outside", 6, 0, 0x200000, 0, 5, 0),
+    ASKED("size 0 far outside", 6, 1, LAST_PAGE, 0, 0, 0),
+    ASKED("unmap with offset 1", 6, 1, 0x100000, PAGE, 0, 1),
+
+    /* 7: the range. */
+    {"P11", REFUSED(7, 0), DRAWN, MAP(15, 17, 9, 0), ROOM(0, 8), {NONE}, 0},
+    ASKED("a page below the start", 7, 0, 0xff000, PAGE, 5, 0),
+    ASKED("from a page below the start", 7, 0, 0xff000, 2 * PAGE, 5, 0),
+    ASKED("to a page above the end", 7, 0, 0x1ff000, 2 * PAGE, 5, 0),
+    ASKED("a page above the last", 7, 1, 0x200000, PAGE, 0, 0),
+    ASKED("ends at 2^64", 7, 0, LAST_PAGE, PAGE, 5, 0),
+    ASKED("ends above 2^64, in the space", 7, 0, LAST_PAGE, 0x102000, 5, 0),
+    ASKED("ends above 2^64, at the start", 7, 1, 0x100000, LAST_PAGE, 0, 0),
+    ASKED("first page and 2^48", 7, 0, LIMIT + 0x100000, PAGE, 5, 0),
+    ASKED("first page and 2^63", 7, 0, HALF + 0x100000, PAGE, 5, 0),
+
+    /* 8: the reservation. */
+    ASKED("shares the first reserved page", 8, 0, 0x13f000, 2 * PAGE, 5, 0),
+    ASKED("is the first reserved page", 8, 0, 0x140000, PAGE, 5, 0),
+    ASKED("inside the reservation", 8, 1, 0x150000, PAGE, 0, 0),
+    ASKED("shares the last reserved page", 8, 0, 0x17f000, 2 * PAGE, 5, 0),
+    ASKED("around the reservation", 8, 1, 0x100000, 0x100000, 0, 0),
+    {"all is reserved", REFUSED(8, 0), ALL_RESERVED, GOOD_MAP, ROOM(0, 2), {NONE}, 0},
+
+    /* 9: the object, all 64 bits of it. */
+    ASKED("map of object 0", 9, 0, 0x100000, PAGE, 0, 0),
+    ASKED("map of object 2^32", 9, 0, 0x100000, PAGE, HIGHEST_OBJECT + 1, 0),
+    ASKED("map of object 2^32 + 7", 9, 0, 0x100000, PAGE, HIGHEST_OBJECT + 8, 0),
+    ASKED("map of the highest number", 9, 0, 0x100000, PAGE, UINT64_MAX, 0),
+    ASKED("unmap with object 1", 9, 1, 0x100000, PAGE, 1, 0),
+    ASKED("unmap with object 2^32", 9, 1, 0x100000, PAGE, HIGHEST_OBJECT + 1, 0),
+    ASKED("unmap with a page's offset", 9, 1, 0x100000, PAGE, 0, PAGE),
+
+    /* 10: the offset. */
+    ASKED("offset and size a page above", 10, 0, 0x100000, 2 * PAGE, 5, LIMIT - PAGE),
+    ASKED("offset 2^48", 10, 0, 0x100000, PAGE, 5, LIMIT),
+    ASKED("offset and size are 2^64", 10, 0, 0x100000, PAGE, 5, LAST_PAGE),
+    ASKED("offset and size above 2^64", 10, 0, 0x100000, 2 * PAGE, 5, LAST_PAGE),
+
+    /* 11: the room. */
+    FULL_UP("P12", MAP(1, 2, 9, 4), 1, 2, P(0, 3, 7, 1)),
+    FULL_UP("a hole in room for one", UNMAP(1, 2), 1, 1, P(0, 3, 7, 1)),
+    FULL_UP("into the gap of a full table", MAP(2, 3, 9, 4), 2, 2, P(0, 1, 7, 1), P(4, 5, 7, 1)),
+    FULL_UP("behind a full table", MAP(5, 6, 9, 4), 2, 2, P(0, 1, 7, 1), P(4, 5, 7, 1)),
+    FULL_UP("two cut in a full table", MAP(1, 4, 9, 4), 2, 2, P(0, 2, 7, 1), P(3, 5, 7, 1)),
+    FULL_UP("one cut in a full table", MAP(1, 2, 9, 4), 2, 2, P(0, 2, 7, 1), P(3, 5, 7, 1)),
+
+    /* The order: each comes before the next, whatever else is wrong. */
+    {"13 before 1", REFUSED(13, 5), SPACE(1, 0, 0, 0), REQUEST(2, 1, 0, 0, 1), 5, 7, FIVE, 0},
+    {"1 before 2", REFUSED(1, 9), SPACE(1, PAGE, 0, 0), GOOD_MAP, 9, 7, {ONES}, 0},
+    {"2 before 3", REFUSED(2, 9), COMMON, GOOD_MAP, 9, 7, {ONES}, -OPERATION_WORDS},
+    {"3 before 4", REFUSED(3, 9), COMMON, GOOD_MAP, ROOM(9, 1), {ONES}, -1},
+    {"4 before 5", REFUSED(4, 3), COMMON, GOOD_MAP, ROOM(3, 2), {ONES, ONES}, 0},
+    {"5 before 6", BAD_PLACE(1, 2), COMMON, REQUEST(0, 1, 0, 0, 1), ROOM(2, 2), {FIRST, ONES}, 0},
+    {"5 before 11", BAD_PLACE(1, 2), COMMON, REQUEST(0, 0x104000, PAGE, 5, 0), ROOM(2, 2),
+     {FIRST, ONES}, 0},
+    ASKED("6 before 7", 6, 0, 0xff001, PAGE, 5, 0),
+    ASKED("6 before 9", 6, 0, 0x100000, PAGE, 0, 1),
+    ASKED("7 before 8", 7, 0, 0x17f000, 0x100000, 5, 0),
+    ASKED("7 before 9", 7, 0, 0x200000, PAGE, 0, 0),
+    ASKED("8 before 9", 8, 0, 0x140000, PAGE, 0, 0),
+    ASKED("8 before 10", 8, 0, 0x140000, PAGE, 5, LIMIT),
+    ASKED("9 before 10", 9, 0, 0x100000, PAGE, 0, LIMIT),
+    {"9 before 11", REFUSED(9, 5), COMMON, REQUEST(0, 0x104000, PAGE, 0, 0), ROOM(5, 5), FIVE, 0},
+    {"10 before 11", REFUSED(10, 5), COMMON, REQUEST(0, 0x104000, PAGE, 5, LIMIT), ROOM(5, 5), FIVE,
+     0},
+};
+
+/* Records that are refused themselves, or whose fields are told apart: in the common space. */
+struct record_case {
+    const char *name;
+    uint64_t refusal;
+    struct record record;
+    size_t record_bytes;
+    int bad_space;
+};
+
+#define RECORD(...) {__VA_ARGS__}, RECORD_BYTES, 0
+#define GOOD_RECORD {0, 0, 5, 0, 0x100000, 0, PAGE}
+
+static const struct record_case records[] = {
+    {"length 0", 12, GOOD_RECORD, 0, 0},
+    {"length 39", 12, GOOD_RECORD, 39, 0},
+    {"length 41", 12, GOOD_RECORD, 41, 0},
+    {"length 80", 12, GOOD_RECORD, LONGEST_RECORD, 0},
+    {"12 before 13", 12, {2, 1, 0, 1, 1, 1, 0}, 39, 1},
+    {"record's op 2", 13, RECORD(2, 0, 5, 0, 0x100000, 0, PAGE)},
+    {"record's op 256", 13, RECORD(256, 0, 5, 0, 0x100000, 0, PAGE)},
+    {"record's highest op", 13, RECORD(UINT32_MAX, 0, 0, 0, 0x100000, 0, PAGE)},
+    {"13 before 14", 13, RECORD(2, 1, 5, 1, 0x100000, 0, PAGE)},
+    {"13 before 1, record", 13, {2, 0, 5, 0, 1, 1, 0}, RECORD_BYTES, 1},
+    {"flags 1", 14, RECORD(0, 1, 5, 0, 0x100000, 0, PAGE)},
+    {"highest flag", 14, RECORD(0, 0x80000000, 5, 0, 0x100000, 0, PAGE)},
+    {"pad 1", 14, RECORD(0, 0, 5, 1, 0x100000, 0, PAGE)},
+    {"highest bit of pad", 14, RECORD(1, 0, 0, 0x80000000, 0x100000, 0, PAGE)},
+    {"14 before 1", 14, {0, 1, 5, 0, 0x100000, 0, PAGE}, RECORD_BYTES, 1},
+    {"14 before 6", 14, RECORD(0, 0, 5, 1, 1, 1, 0)},
+    {"1 after the record", 1, {0, 0, 0, 0, 1, 1, 0}, RECORD_BYTES, 1},
+};
+
+/* A full table of 512: place p has pages [4p, 4p + 3), object p + 1. */
+struct full_case {
+    const char *name;
+    waylluqen_request request;
+    waylluqen_answer expected;
+    size_t first_hit; /* all that are hit go: places [first_hit, hit_end) */
+    size_t hit_end;
+};
+
+#define FULL_SPACE {0, 4 * MOST_MAPPINGS * PAGE, 0, 0}
+
+static const struct full_case full_cases[] = {
+    {"the first of 512 replaced", MAP(0, 3, 600, 0), GRANTED(2, 512), 0, 1},
+    {"one of 512 replaced", MAP(1024, 1027, 600, 0), GRANTED(2, 512), 256, 257},
+    {"the last of 512 replaced", MAP(2044, 2047, 600, 0), GRANTED(2, 512), 511, 512},
+    {"two of 512 replaced", MAP(1023, 1032, 600, 0), GRANTED(3, 511), 256, 258},
+    {"all of 512 replaced", MAP(0, 2048, 600, 0), GRANTED(513, 1), 0, 512},
+    {"the first of 512 unmapped", UNMAP(0, 4), GRANTED(1, 511), 0, 1},
+    {"the last of 512 unmapped", UNMAP(2043, 2048), GRANTED(1, 511), 511, 512},
+    {"all of 512 unmapped", UNMAP(0, 2048), GRANTED(512, 0), 0, 512},
+    {"nothing of 512 unmapped", UNMAP(1023, 1024), GRANTED(0, 512), 256, 256},
+    {"into a gap of 512", MAP(1023, 1024, 600, 0), REFUSED(11, 512), 0, 0},
+    {"a hole in one of 512", UNMAP(1025, 1026), REFUSED(11, 512), 0, 0},
+    {"half of one of 512 replaced", MAP(1024, 1026, 600, 0), REFUSED(11, 512), 0, 0},
+};
+
+static struct lent lent_table;
+static struct lent lent_list;
+
+/* One call: what is lent, and what it should leave. */
+struct call {
+    const char *name;
+    waylluqen_space space;
+    waylluqen_answer expected;
+    uint64_t count;
+    uint64_t *table;
+    size_t table_words;
+    uint64_t *list;
+    size_t list_words;
+    /* On a grant: the words at the front of the table and of the operations. */
+    const uint64_t *new_words;
+    const uint64_t *new_list;
+};
+
+static void print_answer(const char *what, waylluqen_answer answer)
+{
+    printf("  %s: refusal %" PRIu64 ", place %" PRIu64, what, answer.refusal, answer.place);
+    printf(", operations %" PRIu64 ", count %" PRIu64 "\n", answer.operations, answer.count);
+}
+
+static int is_same(waylluqen_answer one, waylluqen_answer other)
+{
+    return one.refusal == other.refusal && one.place == other.place &&
+           one.operations == other.operations && one.count == other.count;
+}
+
+/* Prints the first word of lent memory that is not as expected; answers 1 if there is one. */
+static int is_changed(const char *name, const char *what, const uint8_t *memory,
+                      const uint8_t *expected, size_t bytes, const uint64_t *words)
+{
+    for (size_t at = 0; at < bytes; at += sizeof(uint64_t)) {
+        if (memcmp(memory + at, expected + at, sizeof(uint64_t)) != 0) {
+            uint64_t should, is;
+            memcpy(&should, expected + at, sizeof should);
+            memcpy(&is, memory + at, sizeof is);
+            printf("host/c: %s: word %td of the %s is %#" PRIx64 ", not %#" PRIx64 "\n", name,
+                   (const uint64_t *)(const void *)(memory + at) - words, what, is, should);
+            return 1;
+        }
+    }
+    return 0;
+}
+
+/* What the memory should hold after the call: as it is, and on a grant with the new words. */
+static void foresee(const struct call *call, uint8_t *table, uint8_t *list)
+{
+    memcpy(table, lent_table.memory, lent_table.bytes);
+    memcpy(list, lent_list.memory, lent_list.bytes);
+    if (call->expected.refusal != 0) {
+        return;
+    }
+    size_t used = call->expected.count * MAPPING_WORDS * sizeof(uint64_t);
+    size_t all = call->table_words * sizeof(uint64_t);
+    uint8_t *words = table + ((uint8_t *)call->table - lent_table.memory);
+    memcpy(words, call->new_words, used);
+    memset(words + used, 0, all - used);
+    uint8_t *front = list + ((uint8_t *)call->list - lent_list.memory);
+    memcpy(front, call->new_list, call->expected.operations * sizeof(struct operation));
+}
+
+/* Asks by numbers, or by record where there is one, and answers 1 where it is not as expected. */
+static int differs(const struct call *call, const waylluqen_request *request, const uint8_t *record,
+                   size_t record_bytes)
+{
+    static uint8_t table[(LONGEST_TABLE + 512) * sizeof(uint64_t)];
+    static uint8_t list[(LONGEST_LIST + 512) * sizeof(uint64_t)];
+    foresee(call, table, list);
+    waylluqen_answer answer =
+        record == NULL
+            ? waylluqen_bind(call->space, call->table, call->table_words, call->count, call->list,
+                             call->list_words, *request)
+            : waylluqen_bind_record(call->space, call->table, call->table_words, call->count,
+                                    call->list, call->list_words, record, record_bytes);
+    if (!is_same(answer, call->expected)) {
+        printf("host/c: %s, by %s\n", call->name, record == NULL ? "numbers" : "record");
+        print_answer("expected", call->expected);
+        print_answer("answered", answer);
+        return 1;
+    }
+    return is_changed(call->name, "table", lent_table.memory, table, lent_table.bytes,
+                      call->table) ||
+           is_changed(call->name, "operations", lent_list.memory, list, lent_list.bytes,
+                      call->list);
+}
+
+/* Lends old words and operation words, each at the front or at the back. */
+static void lend_both(struct call *call, const uint64_t *old, int table_at_back, int list_at_back)
+{
+    static uint64_t unwritten[LONGEST_LIST];
+    memset(unwritten, UNWRITTEN_BYTE, sizeof unwritten);
+    call->table = lend(&lent_table, old, call->table_words, table_at_back);
+    call->list = lend(&lent_list, unwritten, call->list_words, list_at_back);
+}
+
+/* Whether a record has room for the numbers of a request. */
+static int fits_record(const waylluqen_request *request)
+{
+    return request->op <= UINT32_MAX && request->object <= UINT32_MAX;
+}
+
+/* Every way to lend and to ask; answers 1 where one is not as expected. */
+static int run(struct call *call, const waylluqen_request *request, const uint64_t *old)
+{
+    struct record fields = {(uint32_t)request->op, 0, (uint32_t)request->object, 0,
+                            request->address, request->offset, request->size};
+    /* One byte in front, so that the record is at an odd address. */
+    _Alignas(8) uint8_t bytes[1 + RECORD_BYTES];
+    encode(bytes + 1, &fields);
+    for (int way = 0; way < 4; way++) {
+        lend_both(call, old, way & 1, way >> 1);
+        if (differs(call, request, NULL, 0)) {
+            return 1;
+        }
+        lend_both(call, old, way & 1, way >> 1);
+        if (fits_record(request) && differs(call, NULL, bytes + 1, RECORD_BYTES)) {
+            return 1;
+        }
+    }
+    return 0;
+}
+
+/* The least operation words for a table, and some more or fewer. */
+static size_t list_words(size_t table_words, int more)
+{
+    size_t least = (table_words / MAPPING_WORDS + 1) * OPERATION_WORDS;
+    return more < 0 ? least - (size_t)-more : least + (size_t)more;
+}
+
+/* The written mappings, and behind them words that are not 0, so that a change is noticed. */
+static const uint64_t *old_words(const struct mapping *old)
+{
+    static const struct mapping none = NONE;
+    static uint64_t words[LONGEST_TABLE];
+    memset(words, UNWRITTEN_BYTE, sizeof words);
+    for (size_t i = 0; i < MOST_WRITTEN && memcmp(&old[i], &none, sizeof none) != 0; i++) {
+        memcpy(words + i * MAPPING_WORDS, &old[i], sizeof old[i]);
+    }
+    return words;
+}
+
+static int run_case(const struct test_case *test)
+{
+    uint64_t new_words[MOST_WRITTEN * MAPPING_WORDS];
+    uint64_t new_list[MOST_WRITTEN * OPERATION_WORDS];
+    memcpy(new_words, test->new, sizeof new_words);
+    memcpy(new_list, test->list, sizeof new_list);
+    struct call call = {.name = test->name,
+                        .space = test->space,
+                        .expected = test->expected,
+                        .count = test->count,
+                        .table_words = test->table_words,
+                        .list_words = list_words(test->table_words, test->more_words),
+                        .new_words = new_words,
+                        .new_list = new_list};
+    return run(&call, &test->request, old_words(test->old));
+}
+
+static int run_refusal(const struct refusal_case *test)
+{
+    struct call call = {.name = test->name,
+                        .space = test->space,
+                        .expected = test->expected,
+                        .count = test->count,
+                        .table_words = test->table_words,
+                        .list_words = list_words(test->table_words, test->more_words)};
+    return run(&call, &test->request, old_words(test->old));
+}
+
+static int run_record(const struct record_case *test)
+{
+    static const struct mapping five[MOST_WRITTEN] = FIVE;
+    const waylluqen_space common = COMMON, bad = {1, 0, 0, 0};
+    struct call call = {.name = test->name,
+                        .space = test->bad_space ? bad : common,
+                        .expected = REFUSED(test->refusal, 5),
+                        .count = 5,
+                        .table_words = 6 * MAPPING_WORDS,
+                        .list_words = list_words(6 * MAPPING_WORDS, 0)};
+    uint8_t bytes[LONGEST_RECORD];
+    memset(bytes, UNWRITTEN_BYTE, sizeof bytes);
+    encode(bytes, &test->record);
+    lend_both(&call, old_words(five), 0, 0);
+    return differs(&call, NULL, bytes, test->record_bytes);
+}
+
+/* Writes the old mappings, with what is at places [from, to) replaced by a new one or by none. */
+static void replace(struct mapping *to_all, const struct mapping *old, size_t from, size_t to,
+                    const struct mapping *new)
+{
+    memcpy(to_all, old, from * sizeof *old);
+    to_all += from;
+    if (new != NULL) {
+        *to_all++ = *new;
+    }
+    memcpy(to_all, old + to, (MOST_MAPPINGS - to) * sizeof *old);
+}
+
+static int run_full(const struct full_case *test)
+{
+    static struct mapping old[MOST_MAPPINGS], new[MOST_MAPPINGS + 1];
+    static struct operation list[MOST_MAPPINGS + 1];
+    const waylluqen_request *request = &test->request;
+    const struct mapping mapped = {request->address, request->size, request->object,
+                                   request->offset};
+    size_t operations = 0;
+    for (size_t place = 0; place < MOST_MAPPINGS; place++) {
+        old[place] = (struct mapping)P(4 * place, 4 * place + 3, place + 1, place);
+    }
+    for (size_t place = test->first_hit; place < test->hit_end; place++) {
+        list[operations++] = (struct operation){WAYLLUQEN_KIND_UNMAP, 0, old[place], NONE, NONE};
+    }
+    int maps = request->op == WAYLLUQEN_OP_MAP;
+    list[operations] = (struct operation){WAYLLUQEN_KIND_MAP, 0, mapped, NONE, NONE};
+    replace(new, old, test->first_hit, test->hit_end, maps ? &mapped : NULL);
+    struct call call = {.name = test->name,
+                        .space = FULL_SPACE,
+                        .expected = test->expected,
+                        .count = MOST_MAPPINGS,
+                        .table_words = MOST_MAPPINGS * MAPPING_WORDS,
+                        .list_words = list_words(MOST_MAPPINGS * MAPPING_WORDS, 0),
+                        .new_words = (const uint64_t *)(const void *)new,
+                        .new_list = (const uint64_t *)(const void *)list};
+    return run(&call, request, (const uint64_t *)(const void *)old);
+}
+
+#define NUMBER(cases) (sizeof(cases) / sizeof(cases)[0])
+
+int main(void)
+{
+    const size_t all = NUMBER(grants) + NUMBER(refusals) + NUMBER(records) + NUMBER(full_cases);
+    size_t failed = 0;
+
+    if (!prepare(&lent_table, LONGEST_TABLE) || !prepare(&lent_list, LONGEST_LIST)) {
+        printf("host/c: mmap failed\n");
+        return 1;
+    }
+    for (size_t i = 0; i < NUMBER(grants); i++) {
+        failed += (size_t)run_case(&grants[i]);
+    }
+    for (size_t i = 0; i < NUMBER(refusals); i++) {
+        failed += (size_t)run_refusal(&refusals[i]);
+    }
+    for (size_t i = 0; i < NUMBER(records); i++) {
+        failed += (size_t)run_record(&records[i]);
+    }
+    for (size_t i = 0; i < NUMBER(full_cases); i++) {
+        failed += (size_t)run_full(&full_cases[i]);
+    }
+    if (failed != 0) {
+        printf("host/c: %zu of %zu requests failed\n", failed, all);
+        return 1;
+    }
+    printf("host/c: %zu requests passed\n", all);
+    return 0;
+}

@@ -1,0 +1,169 @@
+//! What a map or an unmap does: the answer, the operations, and the mappings afterwards.
+
+use crate::request::op_holds;
+use crate::table::{check_table, mapping_at};
+use crate::{answer, decode, request_refusal, Extent, Mapping, Refused, Request, Space};
+use crate::{MAP, MAPPING_WORDS};
+use alloc::vec::Vec;
+
+/// An operation is this many words.
+pub const OPERATION_WORDS: usize = 14;
+
+pub const KIND_MAP: u64 = 0;
+pub const KIND_REMAP: u64 = 1;
+pub const KIND_UNMAP: u64 = 2;
+
+/// The lent words that a request on a table of `capacity` mappings asks for.
+pub fn least_operation_words(capacity: usize) -> usize {
+    (capacity + 1) * OPERATION_WORDS
+}
+
+/// One line of the list for the driver. `named` is the old mapping; for a map it is the new one.
+#[derive(Clone, Copy, Debug, PartialEq, Eq)]
+pub struct Operation {
+    pub kind: u64,
+    pub keep: bool,
+    pub named: Mapping,
+    pub lower: Option<Mapping>,
+    pub upper: Option<Mapping>,
+}
+
+impl Operation {
+    pub fn words(&self) -> [u64; OPERATION_WORDS] {
+        let rest = |rest: Option<Mapping>| rest.map_or([0; MAPPING_WORDS], |rest| rest.words());
+        let mut words = [0; OPERATION_WORDS];
+        words[0] = self.kind;
+        words[1] = u64::from(self.keep);
+        words[2..6].copy_from_slice(&self.named.words());
+        words[6..10].copy_from_slice(&rest(self.lower));
+        words[10..14].copy_from_slice(&rest(self.upper));
+        words
+    }
+}
+
+/// What a granted request leaves.
+#[derive(Clone, Debug, PartialEq, Eq)]
+pub struct Grant {
+    pub operations: Vec<Operation>,
+    pub count: u64,
+    pub mappings: Vec<Mapping>,
+}
+
+/// A number of a space that keeps its rules, or an offset that a mapping has.
+fn word(value: u128) -> u64 {
+    u64::try_from(value).expect("at most 2^48")
+}
+
+/// What is left of `old` in front of the range.
+fn lower_rest(old: &Mapping, range: &Extent) -> Option<Mapping> {
+    let whole = old.extent();
+    (whole.start < range.start).then(|| Mapping {
+        size: word(range.start - whole.start),
+        ..*old
+    })
+}
+
+/// What is left of `old` behind the range.
+fn upper_rest(old: &Mapping, range: &Extent) -> Option<Mapping> {
+    let whole = old.extent();
+    (range.end < whole.end).then(|| Mapping {
+        address: word(range.end),
+        size: word(whole.end - range.end),
+        object: old.object,
+        offset: word(u128::from(old.offset) + (range.end - whole.start)),
+    })
+}
+
+fn keeps(old: &Mapping, request: &Request) -> bool {
+    request.op == MAP
+        && old.address == request.address
+        && old.object == request.object
+        && old.offset == request.offset
+}
+
+/// The operation that a hit mapping gets.
+fn cut(old: &Mapping, request: &Request) -> Operation {
+    let range = request.extent();
+    let inside = old.extent().is_inside(&range);
+    Operation {
+        kind: if inside { KIND_UNMAP } else { KIND_REMAP },
+        keep: keeps(old, request),
+        named: *old,
+        lower: lower_rest(old, &range),
+        upper: upper_rest(old, &range),
+    }
+}
+
+fn new_mapping(request: &Request) -> Option<Mapping> {
+    (request.op == MAP).then_some(Mapping {
+        address: request.address,
+        size: request.size,
+        object: request.object,
+        offset: request.offset,
+    })
+}
+
+/// Carries out a request that is not refused for itself: first who is hit, then what comes of it.
+fn carry_out(mappings: &[Mapping], request: &Request) -> Grant {
+    let range = request.extent();
+    let (hit, spared): (Vec<Mapping>, Vec<Mapping>) = mappings
+        .iter()
+        .partition(|old| old.extent().shares_byte_with(&range));
+    let new = new_mapping(request);
+    let mut operations: Vec<Operation> = hit.iter().map(|old| cut(old, request)).collect();
+    let lower = operations.iter().filter_map(|operation| operation.lower);
+    let upper = operations.iter().filter_map(|operation| operation.upper);
+    let added = lower.clone().count() + upper.clone().count() + new.iter().count();
+    let count = (mappings.len() - hit.len() + added) as u64;
+
+    let mut after: Vec<Mapping> = spared;
+    after.extend(lower.chain(upper).chain(new));
+    after.sort_by_key(|mapping| mapping.address);
+    operations.extend(new.map(|named| Operation {
+        kind: KIND_MAP,
+        keep: false,
+        named,
+        lower: None,
+        upper: None,
+    }));
+    Grant {
+        operations,
+        count,
+        mappings: after,
+    }
+}
+
+/// The answer to a request by numbers.
+pub fn bind(
+    space: &Space,
+    table: &[u64],
+    count: u64,
+    operation_words: usize,
+    request: &Request,
+) -> Result<Grant, Refused> {
+    if !op_holds(request.op) {
+        return Err(Refused::of(answer::BAD_OP));
+    }
+    let places = check_table(space, table, count, Some(operation_words))?;
+    if let Some(number) = request_refusal(request, space) {
+        return Err(Refused::of(number));
+    }
+    let mappings: Vec<Mapping> = (0..places).map(|place| mapping_at(table, place)).collect();
+    let grant = carry_out(&mappings, request);
+    if grant.count > (table.len() / MAPPING_WORDS) as u64 {
+        return Err(Refused::of(answer::NO_ROOM));
+    }
+    Ok(grant)
+}
+
+/// The answer to a request in a record.
+pub fn bind_record(
+    space: &Space,
+    table: &[u64],
+    count: u64,
+    operation_words: usize,
+    record: &[u8],
+) -> Result<Grant, Refused> {
+    let request = decode(record).map_err(Refused::of)?;
+    bind(space, table, count, operation_words, &request)
+}

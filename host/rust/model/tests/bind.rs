@@ -1,0 +1,221 @@
+//! The model's answers to the drawings, worked out by hand, in pages.
+
+use waylluqen_model::{
+    bind, replay, Mapping, Pages, Refused, Request, Space, MAP, MAPPING_WORDS, OPERATION_WORDS,
+    PAGE, UNMAP,
+};
+
+/// 16 pages, nothing reserved.
+const SPACE: Space = Space {
+    start: 0,
+    size: 16 * PAGE,
+    reserved_start: 0,
+    reserved_size: 0,
+};
+
+/// First page, page behind the last, object, page of the object.
+type Drawn = [u64; 4];
+const NONE: Drawn = [0; 4];
+
+fn mapping([first, end, object, offset]: Drawn) -> Mapping {
+    Mapping {
+        address: first * PAGE,
+        size: (end - first) * PAGE,
+        object,
+        offset: offset * PAGE,
+    }
+}
+
+fn request(op: u64, drawn: Drawn) -> Request {
+    let Mapping {
+        address,
+        size,
+        object,
+        offset,
+    } = mapping(drawn);
+    Request {
+        op,
+        address,
+        size,
+        object,
+        offset,
+    }
+}
+
+fn map(drawn: Drawn) -> Request {
+    request(MAP, drawn)
+}
+
+fn unmap(first: u64, end: u64) -> Request {
+    request(UNMAP, [first, end, 0, 0])
+}
+
+/// Kind and keep, then the named mapping, the lower rest and the upper rest.
+type Line = ([u64; 2], [Drawn; 3]);
+
+/// The lines and mappings that a request leaves, or the number of its refusal.
+fn ask(old: &[Drawn], capacity: usize, request: &Request) -> Result<(Vec<u64>, Vec<Mapping>), u32> {
+    let mappings: Vec<Mapping> = old.iter().copied().map(mapping).collect();
+    let mut table: Vec<u64> = mappings.iter().flat_map(Mapping::words).collect();
+    table.resize(capacity * MAPPING_WORDS, 0);
+    let room = (capacity + 1) * OPERATION_WORDS;
+    let grant = bind(&SPACE, &table, old.len() as u64, room, request);
+    let grant = grant.map_err(|Refused { number, .. }| number)?;
+    let words: Vec<u64> = grant
+        .operations
+        .iter()
+        .flat_map(|one| one.words())
+        .collect();
+    assert_eq!(grant.count, grant.mappings.len() as u64);
+    // The two other views agree.
+    assert_eq!(replay(&mappings, &words).as_ref(), Some(&grant.mappings));
+    let mut pages = Pages::new(&SPACE, &mappings);
+    pages.ask(request);
+    assert_eq!(pages.mappings(), grant.mappings);
+    Ok((words, grant.mappings))
+}
+
+fn line_words(([kind, keep], mappings): &Line) -> Vec<u64> {
+    let drawn = mappings.iter().flat_map(|&drawn| mapping(drawn).words());
+    [*kind, *keep].into_iter().chain(drawn).collect()
+}
+
+/// A request in room for eight leaves these lines and mappings.
+fn leaves(old: &[Drawn], request: &Request, lines: &[Line], after: &[Drawn]) {
+    let words: Vec<u64> = lines.iter().flat_map(line_words).collect();
+    let after: Vec<Mapping> = after.iter().copied().map(mapping).collect();
+    assert_eq!(ask(old, 8, request), Ok((words, after)));
+}
+
+const NEW_MAP: [u64; 2] = [0, 0];
+const REMAP: [u64; 2] = [1, 0];
+const UNMAP_ALL: [u64; 2] = [2, 0];
+
+#[test]
+fn same_again() {
+    let old = [0, 1, 7, 1];
+    let lines = [([2, 1], [old, NONE, NONE]), (NEW_MAP, [old, NONE, NONE])];
+    leaves(&[old], &map(old), &lines, &[old]);
+}
+
+/// A map over one mapping leaves one remap with these rests, of which one is absent.
+fn leaves_rest(old: Drawn, new: Drawn, rests: [Drawn; 2], after: [Drawn; 2]) {
+    let [lower, upper] = rests;
+    let lines = [(REMAP, [old, lower, upper]), (NEW_MAP, [new, NONE, NONE])];
+    leaves(&[old], &map(new), &lines, &after);
+}
+
+#[test]
+fn one_rest() {
+    let (lower, new) = ([0, 1, 7, 1], [1, 2, 9, 4]);
+    leaves_rest([0, 2, 7, 1], new, [lower, NONE], [lower, new]);
+    let (upper, new) = ([1, 2, 7, 2], [0, 1, 9, 4]);
+    leaves_rest([0, 2, 7, 1], new, [NONE, upper], [new, upper]);
+    let (lower, new) = ([0, 1, 7, 1], [1, 3, 9, 4]);
+    leaves_rest([0, 2, 7, 1], new, [lower, NONE], [lower, new]);
+    let (upper, new) = ([2, 3, 7, 2], [0, 2, 9, 4]);
+    leaves_rest([1, 3, 7, 1], new, [NONE, upper], [new, upper]);
+}
+
+#[test]
+fn both_rests() {
+    let (old, new) = ([0, 3, 7, 1], [1, 2, 9, 4]);
+    let (lower, upper) = ([0, 1, 7, 1], [2, 3, 7, 3]);
+    let remap = (REMAP, [old, lower, upper]);
+    let last = (NEW_MAP, [new, NONE, NONE]);
+    leaves(&[old], &map(new), &[remap, last], &[lower, new, upper]);
+    leaves(&[old], &unmap(1, 2), &[remap], &[lower, upper]);
+    assert_eq!(ask(&[old], 2, &map(new)), Err(11));
+    assert!(ask(&[old], 3, &map(new)).is_ok());
+    assert_eq!(ask(&[old], 1, &unmap(1, 2)), Err(11));
+}
+
+#[test]
+fn no_rest() {
+    let (old, new) = ([1, 2, 7, 1], [0, 3, 9, 4]);
+    let last = (NEW_MAP, [new, NONE, NONE]);
+    leaves(
+        &[old],
+        &map(new),
+        &[(UNMAP_ALL, [old, NONE, NONE]), last],
+        &[new],
+    );
+    // The room that it frees is there for the new one.
+    assert!(ask(&[old], 1, &map(new)).is_ok());
+    leaves(&[old], &unmap(0, 3), &[(UNMAP_ALL, [old, NONE, NONE])], &[]);
+}
+
+#[test]
+fn nothing_hit() {
+    let (old, new) = ([0, 1, 7, 1], [1, 2, 7, 2]);
+    leaves(
+        &[old],
+        &map(new),
+        &[(NEW_MAP, [new, NONE, NONE])],
+        &[old, new],
+    );
+    leaves(&[old], &unmap(1, 2), &[], &[old]);
+    leaves(&[], &unmap(3, 4), &[], &[]);
+    assert_eq!(ask(&[], 8, &map([15, 17, 9, 0])), Err(7));
+    assert!(ask(&[], 8, &map([15, 16, 9, 0])).is_ok());
+    assert_eq!(ask(&[], 8, &unmap(20, 20)), Err(6));
+}
+
+#[test]
+fn several_hit() {
+    let old = [[0, 2, 7, 1], [2, 3, 8, 0], [5, 7, 7, 9], [8, 9, 7, 3]];
+    let new = [1, 6, 7, 2];
+    let (lower, upper) = ([0, 1, 7, 1], [6, 7, 7, 10]);
+    let lines = [
+        (REMAP, [old[0], lower, NONE]),
+        (UNMAP_ALL, [old[1], NONE, NONE]),
+        (REMAP, [old[2], NONE, upper]),
+        (NEW_MAP, [new, NONE, NONE]),
+    ];
+    leaves(&old, &map(new), &lines, &[lower, new, upper, old[3]]);
+    leaves(&old, &unmap(1, 6), &lines[..3], &[lower, upper, old[3]]);
+}
+
+#[test]
+fn numbers_have_64_bits() {
+    let good = map([0, 1, 7, 0]);
+    let high = 1 << 32;
+    for (op, object, number) in [
+        (2, 0, 13),
+        (high, 7, 13),
+        (MAP, high, 9),
+        (MAP, high + 7, 9),
+    ] {
+        let request = Request { op, object, ..good };
+        assert_eq!(ask(&[], 8, &request), Err(number));
+    }
+    let highest = Request {
+        object: high - 1,
+        ..good
+    };
+    assert!(ask(&[], 8, &highest).is_ok());
+}
+
+#[test]
+fn keep_compares_no_sizes() {
+    let (old, new) = ([0, 2, 7, 1], [0, 1, 7, 1]);
+    let upper = [1, 2, 7, 2];
+    let lines = [([1, 1], [old, NONE, upper]), (NEW_MAP, [new, NONE, NONE])];
+    leaves(&[old], &map(new), &lines, &[new, upper]);
+}
+
+#[test]
+fn replays_that_fail() {
+    let old = mapping([0, 3, 7, 1]);
+    let fails = |line: Line| assert_eq!(replay(&[old], &line_words(&line)), None);
+    let drawn = [0, 3, 7, 1];
+    // Occupied; not there; no rest; a rest with the old offset, outside, of another object, twice.
+    fails((NEW_MAP, [[2, 4, 9, 0], NONE, NONE]));
+    fails((UNMAP_ALL, [[0, 3, 7, 2], NONE, NONE]));
+    fails((REMAP, [drawn, NONE, NONE]));
+    fails((REMAP, [drawn, NONE, [2, 3, 7, 1]]));
+    fails((REMAP, [drawn, NONE, [2, 4, 7, 3]]));
+    fails((REMAP, [drawn, [0, 1, 8, 1], NONE]));
+    fails((REMAP, [drawn, [0, 1, 7, 1], [0, 1, 7, 1]]));
+    fails(([3, 0], [drawn, NONE, NONE]));
+}
