@@ -32,3 +32,8 @@ pub mod Pinned
 pub mod Boundaries
 pub mod Steps
 pub mod Example
+pub mod Printed
+pub mod Decimal
+pub mod ScriptRecords
+pub mod ScriptSpaces
+pub mod ScriptRefusals

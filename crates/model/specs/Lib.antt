@@ -8,3 +8,6 @@ pub mod Exactly
 pub mod Grants
 pub mod Demand3
 pub mod Drawings
+pub mod Text
+pub mod Script
+pub mod Scripts

@@ -36,7 +36,7 @@ fn u32_at(bytes: &[u8], at: usize) -> u64
     low + 0x1_0000 * high
 }
 
-fn u64_at(bytes: &[u8], at: usize) -> u64
+pub fn u64_at(bytes: &[u8], at: usize) -> u64
     requires { ⌜ at + 8 ≤ length (now bytes) ⌝ }
     ensures { λ x. ⌜ NumberAt (now (bytes .entry)) at 8 x ⌝ }
 {

@@ -1,4 +1,5 @@
-//! The rules, written a second time in plain Rust, so that the library can be compared to them.
+//! The rules, written a second time in plain Rust, so that the library and the script program can be
+//! compared to them.
 //!
 //! It is made to be read next to the rules, not to be fast: sums are `u128`, so none wraps.
 
@@ -16,8 +17,10 @@ pub mod pages;
 pub mod random;
 pub mod replay;
 pub mod request;
+pub mod script;
 pub mod space;
 pub mod table;
+pub mod write;
 
 pub use answer::Refused;
 pub use bind::{bind, bind_record, Grant, Operation, OPERATION_WORDS};
@@ -27,6 +30,7 @@ pub use mapping::{mapping_holds, Mapping, HIGHEST_OBJECT, MAPPING_WORDS};
 pub use pages::{Page, Pages};
 pub use replay::replay;
 pub use request::{decode, request_refusal, Record, Request, MAP, RECORD_BYTES, UNMAP};
+pub use script::{script, SCRIPT_MAPPINGS};
 pub use space::{space_holds, Space};
 pub use table::MOST_MAPPINGS;
 

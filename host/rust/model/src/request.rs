@@ -75,7 +75,7 @@ impl Record {
 }
 
 /// The little-endian number in these bytes, at most eight.
-fn number(bytes: &[u8]) -> u64 {
+pub(crate) fn number(bytes: &[u8]) -> u64 {
     bytes
         .iter()
         .rev()

@@ -1,5 +1,8 @@
 //! Requests at and beside the edges of a table's mappings.
 
+// Each of the comparisons takes what it needs.
+#![allow(dead_code)]
+
 use crate::common::{pages_in, LIMIT};
 use crate::requests::{MAP, UNMAP};
 use crate::tables::{free_parts, Good};

@@ -1,0 +1,153 @@
+-- A state that the program comes to passes the rows 2, 3, 4 and 5, and a request's part is 40 bytes long: none of these refuses.
+-- Assumes nothing.
+use mathlib.Core.Path.{_≡_, refl, sym, subst}
+use mathlib.Core.Logic.{_⊎_, inl, inr, ⊎-elim}
+use mathlib.Core.Bool.{Bool, true, false}
+use mathlib.Core.List.{List, [], _∷_, _++_, List·Memᴰ·head, List·Memᴰ·tail}
+use Prim.Native.Nat.{ℕ, _≤_}
+use lib.Dec.{T, eqb}
+use lib.ListN.{length, length-replicate}
+use borrow.Author.Tests.{eqb-true}
+use Rattle.model.specs.Prelude.{Space, Request, Grant}
+use Rattle.model.specs.Rows.{all, choose, Row, Reply, refused, answered, decide}
+use Rattle.model.specs.Rules.{spaceRow, formRows, requestRows}
+use Rattle.model.specs.Table.{Table, capacity, mappingsIn, badPlace, lengthRow, operationsRow, countRow, mappingsRow, tableRows, lookupRows}
+use Rattle.model.specs.Calls.{requestOf, bytes, roomRow, bindRows, outcomeFor, countAfter, bind, lookup}
+use Rattle.model.specs.Exactly.{_∈_, Each}
+use Rattle.model.specs.Script.{recordAt, recordSize, State, Told, emptied, granted, shows, refusal, otherMark, cut, ended, toldBy, afterBind, requestIn, bindIn, stepOn, step, start}
+use Rattle.model.specs.Scripts.{Reached, started, stepped, NeverBroken}
+use Rattle.model.specs.declared.ScriptRecord.{ScriptRecord}
+use Rattle.model.specs.declared.ScriptRecord.the-variants.{SetSpace, Bind, LookUp, OtherMark, Cut, End}
+use Rattle.model.proofs.Tests.{tests, Alls, not-facts}
+use Rattle.model.proofs.Rows.{answered-passed, last-row}
+use Rattle.model.proofs.Rules.{space-says}
+use Rattle.model.proofs.Exactly.{exactly}
+use Rattle.model.proofs.Demand2.{demand-2}
+use Rattle.model.proofs.Replays.{replay-claim}
+use Rattle.model.proofs.ScriptRecords.{record-fits, request-length}
+use Rattle.model.proofs.ScriptSpaces.{sets-space}
+
+-- ── the states that the program comes to ──
+
+-- the rows that look at the table pass, whatever the space
+record Sound (st : State) : Type 0 where
+  two : Alls (lengthRow (st .table) .tests)
+  three : Alls (operationsRow (length (st .operations)) (st .table) .tests)
+  four : Alls (countRow (st .table) .tests)
+  five : Alls (mappingsRow (st .space) (st .table) .tests)
+
+sound-start : Sound start
+unfolding mappingsIn badPlace
+sound-start = record { two = (tt, (tt, (tt, tt))); three = (tt, tt); four = (tt, tt); five = (tt, tt) }
+
+sound-space : (st : State) (bs : List ℕ) (s : Space) → recordAt bs ≡ SetSpace s → Sound st → Sound (step st bs .state)
+unfolding mappingsIn badPlace
+sound-space st bs s e h =
+    let l = length-replicate {A = ℕ} (length (st .table .words)) 0 in
+    ⊎-elim
+    (λ y. rw (sets-space st bs s e .granted (space-says s .0 (y .0))) (record {
+      two = omega (tests, l, h .two);
+      three = omega (tests, l, h .three);
+      four = omega (tests, l);
+      five = (tt, tt);
+    }))
+    (λ n. rw (sets-space st bs s e .refused (λ r. n .0 (space-says s .1 r))) h) (last-row [] (spaceRow s) (capacity (st .table)) tt)
+
+sound-bind : (st : State) (bs : List ℕ) → Sound st → Sound (afterBind st (bindIn st bs))
+unfolding lookup lookupRows
+sound-bind st bs h = go (bindIn st bs .answer) refl
+  where
+    t : Table
+    t = st .table
+
+    go : (u : Reply Grant) → bindIn st bs .answer ≡ u → Sound (afterBind st (bindIn st bs))
+    go (refused n p) e =
+        let k = exactly .unchanged (st .space) t (st .operations) (bytes (requestIn bs)) n p e in
+        subst Sound (sym (λ i. record { space = st .space; table = record { words = k .0 i; count = countAfter (e i) (t .count) }; operations = k .1 i })) h
+    go (answered g) e =
+        let f = demand-2 (st .space) t (st .operations) (bytes (requestIn bs)) g e in
+        let w = replay-claim (st .space) t (st .operations) (bytes (requestIn bs)) g e in
+        let l = answered-passed (lookupRows (st .space) _) _ _ (f .answers 0) .0 in
+        record { two = l .1 .0; three = omega (tests, h .three, f .zeros .1, w .words .1); four = l .1 .1 .0; five = l .1 .1 .1 .0 }
+
+sound-step : (r : ScriptRecord) (st : State) (bs : List ℕ) → recordAt bs ≡ r → Sound st → Sound (step st bs .state)
+unfolding step
+sound-step (SetSpace s) st bs e h = sound-space st bs s e h
+sound-step Bind st bs e h = rw e (sound-bind st bs h)
+sound-step (LookUp x) st bs e h = rw e h
+sound-step OtherMark st bs e h = rw e h
+sound-step Cut st bs e h = rw e h
+sound-step End st bs e h = rw e h
+
+sound : {st : State} → Reached st → Sound st
+sound started = sound-start
+sound (stepped {st = st} r bs) = sound-step (recordAt bs) st bs refl (sound r)
+
+-- ── what may be told ──
+
+abbrev numbers : List ℕ
+numbers = 1 ∷ 6 ∷ 7 ∷ 8 ∷ 9 ∷ 10 ∷ 11 ∷ 13 ∷ 14 ∷ []
+
+abbrev among : ℕ → List ℕ → Bool
+among n [] = false
+among n (m ∷ ms) = choose (eqb n m) true (among n ms)
+
+among-mem : (n : ℕ) (ms : List ℕ) → T (among n ms) → n ∈ ms
+among-mem n [] h = absurd h
+among-mem n (m ∷ ms) h = go (eqb n m) refl (among-mem n ms) h
+  where
+    go : (b : Bool) → eqb n m ≡ b → (T (among n ms) → n ∈ ms) → T (choose b true (among n ms)) → n ∈ (m ∷ ms)
+    go true e ih h = List·Memᴰ·head (eqb-true n m e)
+    go false e ih h = List·Memᴰ·tail (ih h)
+
+-- a refusal has one of the numbers
+abbrev Allowed : Told → Type 0
+Allowed (emptied n) = Unit {0}
+Allowed (granted g) = Unit {0}
+Allowed (shows x v) = Unit {0}
+Allowed (refusal n p) = T (among n numbers)
+Allowed otherMark = Unit {0}
+Allowed cut = Unit {0}
+Allowed ended = Unit {0}
+
+-- what holds of the answer, and of the refusal of each row that does not pass, holds of the reply
+decide-holds : {A : Type 0} (P : Reply A → Type 0) (ws : List Row) (a : A) → Each (λ w. Alls (w .tests) ⊎ P (refused (w .number) (w .place))) ws
+    → P (answered a) → P (decide ws a)
+unfolding decide
+decide-holds P [] a h k = k
+decide-holds P (w ∷ ws) a h k = go (all (w .tests)) refl (h .0) (decide-holds P ws a (h .1) k)
+  where
+    go : (b : Bool) → all (w .tests) ≡ b → Alls (w .tests) ⊎ P (refused (w .number) (w .place)) → P (decide ws a)
+        → P (choose b (decide ws a) (refused (w .number) (w .place)))
+    go true e h k = k
+    go false e (inl h) k = absurd (not-facts (w .tests) e h)
+    go false e (inr h) k = h
+
+bind-allowed : (st : State) (bs : List ℕ) → Sound st → length bs ≡ 40
+    → Allowed (toldBy granted (bind (st .space) (st .table) (st .operations) (bytes bs) .answer))
+unfolding bind bindRows formRows tableRows requestRows
+bind-allowed st bs h e = decide-holds (λ u. Allowed (toldBy granted (outcomeFor u r (st .table) (st .operations) .answer))) rows _
+    (inl (omega tests), (inr tt, (inr tt, (inr tt, (inl (h .two), (inl (h .three), (inl (h .four), (inl (h .five), asks)))))))) tt
+  where
+    r : Request
+    r = requestOf bs
+
+    rows : List Row
+    rows = bindRows (st .space) (st .table) (length (st .operations)) (bytes bs)
+
+    asks : Each (λ w. Alls (w .tests) ⊎ T (among (w .number) numbers)) (requestRows (st .space) r ++ roomRow (st .table) r ∷ [])
+    asks = (inr tt, (inr tt, (inr tt, (inr tt, (inr tt, (inr tt, tt))))))
+
+told-allowed : (r : ScriptRecord) (st : State) (bs : List ℕ) → Sound st → recordSize r ≤ length bs → Allowed (stepOn r st bs .told)
+unfolding lookup lookupRows
+told-allowed (SetSpace s) st bs h k = decide-holds (λ u. Allowed (toldBy emptied u)) (spaceRow s ∷ []) (capacity (st .table)) (inr tt, tt) tt
+told-allowed Bind st bs h k = bind-allowed st (requestIn bs) h (request-length bs k)
+told-allowed (LookUp x) st bs h k =
+    decide-holds (λ u. Allowed (toldBy (shows x) u)) (lookupRows (st .space) (st .table)) _ (inr tt, (inl (h .two), (inl (h .four), (inl (h .five), tt)))) tt
+told-allowed OtherMark st bs h k = tt
+told-allowed Cut st bs h k = tt
+told-allowed End st bs h k = tt
+
+pub never-broken : NeverBroken
+unfolding step
+never-broken st r bs n p e = among-mem n numbers (subst Allowed e (told-allowed (recordAt bs) st bs (sound r) (record-fits bs)))

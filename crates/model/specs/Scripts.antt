@@ -1,0 +1,81 @@
+-- What is claimed of the script program: its numbers, its records, the space that it sets, the refusals that it can give, and what some scripts print.
+use Prim.Native.String.{String}
+use Rattle.model.specs.Prelude.{_≡_, _⊎_, List, [], _∷_, _++_, ℕ, _+_, _-_, _*_, _/_, _≤_, _<_, length, getD, replicate, Space}
+use Rattle.model.specs.Calls.{bytesOf, recordOf}
+use Rattle.model.specs.Exactly.{Each, _∈_, SpaceRules, Pins}
+use Rattle.model.specs.Text.{ascii, decimal}
+use Rattle.model.specs.Script.{recordAt, State, emptied, refusal, step, start, output, responseTold}
+use Rattle.model.specs.declared.ScriptRecord.the-variants.{SetSpace, Cut, End}
+
+-- the number that decimal digits say, behind the number n
+abbrev pub readDecimal : ℕ → List ℕ → ℕ
+readDecimal n [] = n
+readDecimal n (d ∷ ds) = readDecimal (10 * n + (d - 48)) ds
+
+-- a number's text is read back, and has digits alone, and no zero in front
+pub record Decimal : Type 0 where
+  pub reads-back : (n : ℕ) → readDecimal 0 (decimal n) ≡ n
+  pub digits : (n : ℕ) → Each (λ d. (48 ≤ d) × (d ≤ 57)) (decimal n)
+  pub one-digit : (n : ℕ) → n < 10 → decimal n ≡ (48 + n) ∷ []
+  pub no-zero : (n : ℕ) → 10 ≤ n → 48 < getD (decimal n) 0 0
+
+-- a record whose bytes have come is the one that stands in the whole script, and does the same, whatever comes behind it
+abbrev pub Prefix : Type 0
+Prefix = (bs more : List ℕ) → (recordAt bs ≡ Cut) ⊎ ((recordAt bs ≡ End)
+    ⊎ ((recordAt (bs ++ more) ≡ recordAt bs) × ((st : State) → step st (bs ++ more) ≡ step st bs)))
+
+-- `SP` with the space s: granted, it sets count 0 and every table word zero; refused, it changes nothing
+pub record Sets (st : State) (bs : List ℕ) (s : Space) : Type 0 where
+  pub granted : SpaceRules s → step st bs ≡ record {
+    told = emptied (length (st .table .words) / 4);
+    state = record { space = s; table = record { words = replicate (length (st .table .words)) 0; count = 0 }; operations = st .operations };
+  }
+  pub refused : (SpaceRules s → ⊥) → step st bs ≡ record { told = refusal 1 0; state = st }
+
+abbrev pub SetsSpace : Type 0
+SetsSpace = (st : State) (bs : List ℕ) (s : Space) → recordAt bs ≡ SetSpace s → Sets st bs s
+
+-- no two answers read alike
+abbrev pub ResponsePinned : Type 0
+ResponsePinned = Pins responseTold
+
+-- the states that the program comes to, whatever the script
+pub data Reached : State → Type 0 where
+  started : Reached start
+  stepped : {st : State} → Reached st → (bs : List ℕ) → Reached (step st bs .state)
+
+-- no answer is 2, 3, 4 or 5; nor 12, since a request's part is 40 bytes long
+abbrev pub NeverBroken : Type 0
+NeverBroken = (st : State) → Reached st → (bs : List ℕ) (n p : ℕ) → step st bs .told ≡ refusal n p → n ∈ (1 ∷ 6 ∷ 7 ∷ 8 ∷ 9 ∷ 10 ∷ 11 ∷ 13 ∷ 14 ∷ [])
+
+-- ── scripts, and what they print ──
+
+abbrev pub setSpaceBytes : ℕ → ℕ → ℕ → ℕ → List ℕ
+setSpaceBytes start size from length = ascii "SP" ++ (bytesOf 8 start ++ (bytesOf 8 size ++ (bytesOf 8 from ++ bytesOf 8 length)))
+
+abbrev pub requestBytes : ℕ → ℕ → ℕ → ℕ → ℕ → List ℕ
+requestBytes op object address offset size =
+    ascii "RQ" ++ recordOf (record { op = op; flags = 0; object = object; pad = 0; address = address; offset = offset; size = size })
+
+abbrev pub lookUpBytes : ℕ → List ℕ
+lookUpBytes x = ascii "LK" ++ bytesOf 8 x
+
+-- document 01's example
+abbrev pub workedExample : List ℕ
+workedExample = setSpaceBytes 0 65536 0 0 ++ (requestBytes 0 7 0 0 12288 ++ (requestBytes 0 9 4096 0 4096 ++ lookUpBytes 8200))
+
+unfoldable pub scripts : List (List ℕ × String)
+scripts =
+    (workedExample, "space 256\ngranted 1 1\nmap 0 12288 7 0\ngranted 2 3\nremap 0 12288 7 0 keep 0\nlower 0 4096 7 0\nupper 8192 4096 7 8192\nmap 4096 4096 9 0\nat 8200 7 8200\n")
+    -- nothing; one byte; a mark alone; a record cut by its last byte; another mark
+    ∷ ([], "") ∷ (83 ∷ [], "cut 0\n") ∷ (ascii "LK", "cut 0\n") ∷ (lookUpBytes 0 ++ (ascii "LK" ++ bytesOf 7 0), "refused 1\ncut 10\n") ∷ (ascii "sp", "mark 0\n")
+    -- a reservation, a request in it, a second space; an unmap of an upper end, an address that shows nothing
+    ∷ (setSpaceBytes 4096 65536 8192 4096 ++ (requestBytes 0 7 8192 0 4096 ++ (setSpaceBytes 1 0 0 0 ++ ascii "XY")), "space 256\nrefused 8\nrefused 1\nmark 110\n")
+    ∷ (
+      setSpaceBytes 0 65536 0 0 ++ (requestBytes 0 7 0 0 8192 ++ (requestBytes 1 0 4096 0 8192 ++ (lookUpBytes 4096 ++ (setSpaceBytes 0 65536 0 0 ++ lookUpBytes 0)))),
+      "space 256\ngranted 1 1\nmap 0 8192 7 0\ngranted 1 1\nremap 0 8192 7 0 keep 0\nlower 0 4096 7 0\nat 4096 none\nspace 256\nat 0 none\n",
+    )
+    ∷ []
+
+abbrev pub Printed : Type 0
+Printed = Each (λ x. output (x .0) ≡ ascii (x .1)) scripts

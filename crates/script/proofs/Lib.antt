@@ -1,0 +1,4 @@
+pub mod Reading
+pub mod Stepping
+pub mod Pending
+pub mod Going

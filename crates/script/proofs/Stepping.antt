@@ -1,0 +1,58 @@
+-- One step by what the callee that does it answers.
+-- Assumes nothing.
+use mathlib.Core.Path.{_≡_, refl, sym, ap, subst, _∙_}
+use mathlib.Core.Bool.{Bool, true, false}
+use mathlib.Core.List.{List, [], _∷_}
+use Prim.Native.Nat.{ℕ, _-_, _/_, _≤_}
+use native.Mathlib.Omega.{arith}
+use lib.ListN.{length, replicate, length-replicate}
+use Rattle.model.specs.declared.Space.{Space}
+use Rattle.model.specs.declared.Answer.{Answer}
+use Rattle.model.specs.declared.Found.{Found}
+use Rattle.model.specs.declared.ScriptRecord.{ScriptRecord}
+use Rattle.model.specs.declared.ScriptRecord.the-variants.{SetSpace, Bind, LookUp}
+use Rattle.model.specs.Rows.{all, choose, Reply, refused, answered, decide}
+use Rattle.model.specs.Rules.{spaceTests}
+use Rattle.model.specs.Calls.{bytes, Outcome, bind, lookup, answerReply, foundReply}
+use Rattle.model.specs.Script.{recordAt, recordSize, State, emptied, granted, shows, refusal, toldBy, Step, afterSpace, afterBind, requestIn, stepOn, step}
+use Rattle.model.proofs.ScriptRecords.{record-fits}
+use Rattle.table.specs.Places.{lent}
+use Rattle.words.specs.Words.{cleared}
+use Rattle.script.specs.declared.Stepped.{Stepped}
+use Rattle.script.specs.Steps.{stateOf, Steps}
+
+zeros : (ws : List ℕ) → cleared ws 0 ≡ replicate (length ws) 0
+unfolding cleared
+zeros ws = let e : length ws - 0 ≡ length ws = omega arith in rw e
+
+module _ (s : Space) (ws : List ℕ) (count : ℕ) (os bs : List ℕ) where
+  abbrev st : State
+  st = stateOf s ws count os
+
+  pub space-granted : (new : Space) {ws' : List ℕ} → all (spaceTests new) ≡ true → ws' ≡ cleared ws 0
+      → stepOn (SetSpace new) st bs ≡ record { told = emptied (length ws' / 4); state = stateOf new ws' 0 os }
+  unfolding decide
+  space-granted new h e = rw (h, e, zeros ws, length-replicate {A = ℕ} (length ws) 0)
+
+  pub space-refused : (new : Space) → all (spaceTests new) ≡ false → stepOn (SetSpace new) st bs ≡ record { told = refusal 1 0; state = st }
+  unfolding decide
+  space-refused new h = rw h
+
+  pub bind-answered : {request : List ℕ} {a b : Answer} {ws' os' : List ℕ} → requestIn bs ≡ request
+      → bind s (lent ws count) os (bytes request) ≡ record { answer = answerReply a; table = ws'; operations = os' } → a ≡ b
+      → stepOn Bind st bs ≡ record { told = toldBy granted (answerReply b); state = afterBind st (record { answer = answerReply b; table = ws'; operations = os' }) }
+  bind-answered e o h = rw (e, o, h)
+
+  pub lookup-answered : (x : ℕ) {f g : Found} → foundReply f ≡ lookup s (lent ws count) x → f ≡ g
+      → stepOn (LookUp x) st bs ≡ record { told = toldBy (shows x) (foundReply g); state = st }
+  lookup-answered x l h = rw (← l, h)
+
+  -- the record that was read
+  pub step-on : {e : ScriptRecord} {r : Stepped} {ws' os' : List ℕ} → recordAt bs ≡ e
+      → Steps (stepOn e st bs) (recordSize e) r ws' os' → Steps (step st bs) (recordSize (recordAt bs)) r ws' os'
+  unfolding step
+  step-on {r = r} {ws' = ws'} {os' = os'} h k = subst (λ (e : ScriptRecord). Steps (stepOn e st bs) (recordSize e) r ws' os') (sym h) k
+
+-- a request's record is there
+pub request-there : (bs : List ℕ) → recordAt bs ≡ Bind → 42 ≤ length bs
+request-there bs e = rw e at (record-fits bs)

@@ -1,0 +1,48 @@
+-- `script::bind_request` meets its contract.
+-- Assumes nothing.
+use mathlib.Core.Path.{refl}
+use Rattle.script.proofs.Stepping.{bind-answered}
+use borrow.Author.Needs.{needs}
+use Rattle.script.proofs.bind_request.Statement.{statement}
+use Rattle.script.proofs.bind_request.Tie as tie
+
+bind-record-requires : tie.Need-bind-record-requires
+bind-record-requires c κs = search needs
+
+enum-known-g : tie.Need-enum-known-g
+enum-known-g c = search needs
+
+enum-known-w : tie.Need-enum-known-w
+enum-known-w c = search needs
+
+same-length : tie.Need-same-length
+same-length c = search needs
+
+same-length-2 : tie.Need-same-length-2
+same-length-2 c = search needs
+
+returns : tie.Need-returns
+returns c = let b = c .before .before .before .before .before .before .before in let a = b .before .before .before .before .before .before .args in λ bs e. record { leaves = bind-answered (a .s) (a .table .now) (a .count) (a .operations .now) bs e (b .bind-record .ensures) (c .before .g .given .1); takes = refl }
+
+same-length-3 : tie.Need-same-length-3
+same-length-3 c = search needs
+
+same-length-4 : tie.Need-same-length-4
+same-length-4 c = search needs
+
+returns-2 : tie.Need-returns-2
+returns-2 c = let b = c .before .before .before .before .before .before .before in let a = b .before .before .before .before .before .before .args in λ bs e. record { leaves = bind-answered (a .s) (a .table .now) (a .count) (a .operations .now) bs e (b .bind-record .ensures) (c .before .w .given .1); takes = refl }
+
+pub bind-request-spec : {M : Type 1} → statement M
+bind-request-spec =
+    tie.close
+    (tie.spec
+    bind-record-requires
+    enum-known-g
+    enum-known-w
+    same-length
+    same-length-2
+    returns
+    same-length-3
+    same-length-4
+    returns-2)

@@ -1,0 +1,84 @@
+-- The program between two reads: what it holds, what is still to be printed, and what a turn promises.
+-- Assumes nothing.
+use mathlib.Core.Path.{_≡_}
+use mathlib.Core.Logic.{_⊎_}
+use mathlib.Core.Bool.{Bool, true, false}
+use mathlib.Core.List.{List, [], _∷_, _++_}
+use Prim.Native.Nat.{ℕ, zero, suc, _+_, _*_, _^_, _≤_, _<_}
+use lib.ListN.{length, take, drop}
+use Rattle.model.specs.declared.ScriptRecord.the-variants.{Cut, End}
+use Rattle.model.specs.Rows.{choose}
+use Rattle.model.specs.Script.{Told, emptied, granted, shows, refusal, otherMark, cut, ended, recordAt, run, start}
+use Rattle.words.specs.Words.{stored}
+use Rattle.text.specs.Lines.{wordLines}
+use Rattle.script.specs.declared.Progress.{Progress}
+use Rattle.script.specs.declared.Turned.{Turned}
+use Rattle.script.specs.Steps.{stateOf}
+
+-- the lines of n operations, from the i-th on, in the words of the operation slice
+unfoldable pub pending : List ℕ → ℕ → ℕ → List ℕ
+pending os i zero = []
+pending os i (suc n) = wordLines (take 14 (drop (14 * i) os)) ++ pending os (suc i) n
+
+-- all that is still to be printed: the operations of the last grant, and what the unread bytes bs give; ws are the table's words, os the operations'
+unfoldable pub toCome : Progress → List ℕ → List ℕ → List ℕ → List ℕ
+toCome p ws os bs = pending os (p .next) (p .left) ++ choose (p .stopped) [] (run (length bs) (stateOf (p .space) ws (p .count) os) (p .place) bs)
+
+-- before the first byte
+abbrev pub startProgress : Progress
+startProgress = record { space = start .space; count = 0; place = 0; next = 0; left = 0; stopped = false }
+
+-- the bytes end before the record does; then the program waits, if more can come. How many operations an answer hands over
+abbrev pub isShort : Told → Bool
+isShort (emptied n) = false
+isShort (granted g) = false
+isShort (shows x v) = false
+isShort (refusal n p) = false
+isShort otherMark = false
+isShort cut = true
+isShort ended = true
+
+abbrev pub waits : Bool → Told → Bool
+waits true t = false
+waits false t = isShort t
+
+abbrev pub operationCount : Told → ℕ
+operationCount (emptied n) = 0
+operationCount (granted g) = g .operations
+operationCount (shows x v) = 0
+operationCount (refusal n p) = 0
+operationCount otherMark = 0
+operationCount cut = 0
+operationCount ended = 0
+
+-- a place that fits 64 bits, and operations that are there
+pub record Ready (p : Progress) (os bs : List ℕ) : Type 0 where
+  pub places : p .place + length bs < 2 ^ 64
+  pub held : 14 * (p .next + p .left) ≤ length os
+
+-- nothing can be printed from the bytes bs: the program has stopped, or waits for more bytes
+pub record Idle (p : Progress) (bs : List ℕ) (last : Bool) : Type 0 where
+  pub none-left : p .left ≡ 0
+  pub because : (p .stopped ≡ true) ⊎ ((last ≡ false) × ((recordAt bs ≡ Cut) ⊎ (recordAt bs ≡ End)))
+
+-- from p, with the unread bytes bs, some text was put at a place of the output, and what it leaves goes on with the rest, whatever bytes come behind; none come where bs are the last
+pub record Goes (p : Progress) (ws os bs : List ℕ) (last : Bool) (out : List ℕ) (at : ℕ) (t : Turned) (ws' os' out' : List ℕ) : Type 0 where
+  pub text : List ℕ
+  pub bytes : out' ≡ stored out at text
+  pub behind : t .end ≡ at + length text
+  pub goes-on : (more : List ℕ) → (last ≡ true → more ≡ []) → toCome p ws os (bs ++ more) ≡ text ++ toCome (t .progress) ws' os' (drop (t .taken) bs ++ more)
+  pub within : t .taken ≤ length bs
+  pub place : t .progress .place ≡ p .place + t .taken
+  pub held : 14 * (t .progress .next + t .progress .left) ≤ length os'
+
+-- one turn: at most so many bytes, and none only where there is nothing to print
+pub record Turns (p : Progress) (ws os bs : List ℕ) (last : Bool) (out : List ℕ) (at : ℕ) (t : Turned) (ws' os' out' : List ℕ) : Type 0 where
+  pub goes : Goes p ws os bs last out at t ws' os' out'
+  pub most : t .end ≤ at + 320
+  pub idle : t .end ≡ at → Idle (t .progress) (drop (t .taken) bs) last
+
+-- as many turns as there is room for, from the front of the output on
+pub record Advances (p : Progress) (ws os bs : List ℕ) (last : Bool) (out : List ℕ) (t : Turned) (ws' os' out' : List ℕ) : Type 0 where
+  pub goes : Goes p ws os bs last out 0 t ws' os' out'
+  pub room : t .end ≤ length out
+  pub ended : (length out < t .end + 320) ⊎ Idle (t .progress) (drop (t .taken) bs) last

@@ -1,0 +1,17 @@
+-- The program's state in lent words, and what a step promises.
+-- Assumes nothing.
+use mathlib.Core.Path.{_≡_}
+use mathlib.Core.List.{List}
+use Prim.Native.Nat.{ℕ}
+use Rattle.model.specs.declared.Space.{Space}
+use Rattle.model.specs.Script.{State, Step, responseTold}
+use Rattle.table.specs.Places.{lent}
+use Rattle.script.specs.declared.Stepped.{Stepped}
+
+abbrev pub stateOf : Space → List ℕ → ℕ → List ℕ → State
+stateOf s ws count os = record { space = s; table = lent ws count; operations = os }
+
+-- a step's answer, what it holds and the words that it leaves are those of `did`; and it took so many bytes
+pub record Steps (did : Step) (size : ℕ) (r : Stepped) (ws os : List ℕ) : Type 0 where
+  pub leaves : did ≡ record { told = responseTold (r .response); state = stateOf (r .space) ws (r .count) os }
+  pub takes : r .taken ≡ size

@@ -1,0 +1,400 @@
+// The script program on lent buffers: what stands at a place of the script, and what one record does.
+use model::Answer;
+use model::Found;
+use model::Range;
+use model::Refusal;
+use model::Response;
+use model::ScriptRecord;
+use model::Space;
+ghost use mathlib.Core.Path.{_≡_};
+ghost use mathlib.Core.List.{List};
+ghost use mathlib.Core.Bool.{Bool, false};
+ghost use Prim.Native.Nat.{ℕ, _+_, _-_, _*_, _≤_, _<_};
+ghost use lib.ListN.{length};
+ghost use Rattle.model.specs.declared.ScriptRecord.the-variants.{SetSpace, Bind, LookUp};
+ghost use Rattle.model.specs.Script.{hasMark, spaceIn, recordAt, recordSize, requestIn, stepOn, step, responseTold};
+ghost use Rattle.words.specs.Words.{moved};
+ghost use Rattle.script.specs.Steps.{stateOf, Steps};
+ghost use Rattle.script.specs.Progress.{startProgress, waits, operationCount, Ready, Turns, Advances};
+
+// What the program holds after a record, its answer, and how many bytes the record takes.
+pub struct Stepped {
+    pub space: Space,
+    pub count: usize,
+    pub response: Response,
+    pub taken: usize,
+}
+
+const SPACE_RECORD: usize = 34;
+
+const REQUEST_RECORD: usize = 42;
+
+const ADDRESS_RECORD: usize = 10;
+
+fn has_mark(bytes: &[u8], a: u8, b: u8) -> bool
+    requires { ⌜ 2 ≤ length (now bytes) ⌝ }
+    ensures { λ r. ⌜ r ≡ hasMark a b (now (bytes .entry)) ⌝ }
+{
+    (bytes[0] == a) & (bytes[1] == b)
+}
+
+// The four numbers behind `SP`.
+fn space_in(bytes: &[u8]) -> Space
+    requires { ⌜ 34 ≤ length (now bytes) ⌝ }
+    ensures { λ s. ⌜ s ≡ spaceIn (now (bytes .entry)) ⌝ }
+{
+    let start = record::u64_at(bytes, 2);
+    let size = record::u64_at(bytes, 10);
+    let reserved = Range {
+        start: record::u64_at(bytes, 18),
+        size: record::u64_at(bytes, 26),
+    };
+    Space {
+        start,
+        size,
+        reserved,
+    }
+}
+
+// What stands at the front of the bytes.
+pub fn read_record(bytes: &[u8]) -> ScriptRecord
+    ensures { λ r. ⌜ r ≡ recordAt (now (bytes .entry)) ⌝ }
+{
+    if bytes.len() == 0 {
+        return ScriptRecord::End;
+    }
+    if bytes.len() == 1 {
+        return ScriptRecord::Cut;
+    }
+    if has_mark(bytes, b'S', b'P') {
+        if bytes.len() < SPACE_RECORD {
+            return ScriptRecord::Cut;
+        }
+        return ScriptRecord::SetSpace(space_in(bytes));
+    }
+    if has_mark(bytes, b'R', b'Q') {
+        if bytes.len() < REQUEST_RECORD {
+            return ScriptRecord::Cut;
+        }
+        return ScriptRecord::Bind;
+    }
+    if has_mark(bytes, b'L', b'K') {
+        if bytes.len() < ADDRESS_RECORD {
+            return ScriptRecord::Cut;
+        }
+        return ScriptRecord::LookUp(record::u64_at(bytes, 2));
+    }
+    ScriptRecord::OtherMark
+}
+
+// `SP`: a granted one empties the table, a refused one changes nothing.
+fn set_space(s: Space, table: &mut [u64], count: usize, new: Space) -> Stepped
+    ensures { λ r. ⌜ ((os bs : List ℕ) → Steps (stepOn (SetSpace new) (stateOf s (now (table .entry)) count os) bs) 34 r (now (table .exit)) os) ⌝ }
+{
+    if !rules::space_keeps_rules(new) {
+        return Stepped {
+            space: s,
+            count,
+            response: Response::Refused(Refusal::BadSpace),
+            taken: SPACE_RECORD,
+        };
+    }
+    words::clear_from(table, 0);
+    Stepped {
+        space: new,
+        count: 0,
+        response: Response::Emptied(table.len() / 4),
+        taken: SPACE_RECORD,
+    }
+}
+
+// `RQ`: the request's 40 bytes go to the public call.
+fn bind_request(
+    s: Space,
+    table: &mut [u64],
+    count: usize,
+    operations: &mut [u64],
+    request: &[u8],
+) -> Stepped
+    ensures { λ r. ⌜ ((bs : List ℕ) → requestIn bs ≡ now (request .entry) → Steps (stepOn Bind (stateOf s (now (table .entry)) count (now (operations .entry))) bs) 42 r (now (table .exit)) (now (operations .exit))) ⌝ }
+{
+    match bind::bind_record(s, table, count, operations, request) {
+        Answer::Granted(g) => Stepped {
+            space: s,
+            count: g.count,
+            response: Response::Granted(g),
+            taken: REQUEST_RECORD,
+        },
+        Answer::Refused(w) => Stepped {
+            space: s,
+            count,
+            response: Response::Refused(w),
+            taken: REQUEST_RECORD,
+        },
+    }
+}
+
+// `LK`.
+fn look_up(s: Space, table: &[u64], count: usize, x: u64) -> Stepped
+    ensures { λ r. ⌜ ((os bs : List ℕ) → Steps (stepOn (LookUp x) (stateOf s (now (table .entry)) count os) bs) 10 r (now (table .entry)) os) ⌝ }
+{
+    match bind::lookup(s, table, count, x) {
+        Found::Shows(shown) => Stepped {
+            space: s,
+            count,
+            response: Response::Shows(x, shown),
+            taken: ADDRESS_RECORD,
+        },
+        Found::Refused(w) => Stepped {
+            space: s,
+            count,
+            response: Response::Refused(w),
+            taken: ADDRESS_RECORD,
+        },
+    }
+}
+
+// Where the script ends nothing changes.
+fn stop(s: Space, count: usize, response: Response) -> Stepped
+    ensures { λ r. ⌜ r ≡ record { space = s; count = count; response = response; taken = 0 } ⌝ }
+{
+    Stepped {
+        space: s,
+        count,
+        response,
+        taken: 0,
+    }
+}
+
+// One step of the program: the record at the front of the bytes, on the space, the table and the operation words that the
+// program holds. Where the bytes end before the record does, the answer is that it is cut, and nothing has changed.
+pub fn step(
+    s: Space,
+    table: &mut [u64],
+    count: usize,
+    operations: &mut [u64],
+    bytes: &[u8],
+) -> Stepped
+    ensures { λ r. ⌜ Steps (step (stateOf s (now (table .entry)) count (now (operations .entry))) (now (bytes .entry))) (recordSize (recordAt (now (bytes .entry)))) r (now (table .exit)) (now (operations .exit)) ⌝ }
+{
+    match read_record(bytes) {
+        ScriptRecord::SetSpace(new) => set_space(s, table, count, new),
+        ScriptRecord::Bind => bind_request(s, table, count, operations, &bytes[2..REQUEST_RECORD]),
+        ScriptRecord::LookUp(x) => look_up(s, table, count, x),
+        ScriptRecord::OtherMark => stop(s, count, Response::OtherMark),
+        ScriptRecord::Cut => stop(s, count, Response::Cut),
+        ScriptRecord::End => stop(s, count, Response::End),
+    }
+}
+
+// The program between two records or operations: what it holds, the byte place of the next record in the whole script, and the
+// operations of the last grant that are still to be written, `left` of them from the one numbered `next` on.
+pub struct Progress {
+    pub space: Space,
+    pub count: usize,
+    pub place: u64,
+    pub next: usize,
+    pub left: usize,
+    pub stopped: bool,
+}
+
+// Where a turn leaves the program, how many bytes it took, and where its text ends.
+pub struct Turned {
+    pub progress: Progress,
+    pub taken: usize,
+    pub end: usize,
+}
+
+const OPERATION_WORDS: usize = 14;
+
+// Before the first byte of a script: a space of four zeros.
+pub fn start() -> Progress
+    ensures { λ p. ⌜ p ≡ startProgress ⌝ }
+{
+    let reserved = Range { start: 0, size: 0 };
+    let space = Space {
+        start: 0,
+        size: 0,
+        reserved,
+    };
+    Progress {
+        space,
+        count: 0,
+        place: 0,
+        next: 0,
+        left: 0,
+        stopped: false,
+    }
+}
+
+// The lines of the next operation.
+fn write_operation(p: Progress, operations: &[u64], out: &mut [u8], at: usize) -> Turned
+    requires { ⌜ (0 < p .left) × (14 * (p .next + p .left) ≤ length (now operations)) × (at + 320 ≤ length (now out)) ⌝ }
+    ensures { λ t. ⌜ ((ws bs : List ℕ) (last : Bool) → Turns p ws (now (operations .entry)) bs last (now (out .entry)) at t ws (now (operations .entry)) (now (out .exit))) ⌝ }
+{
+    let next = p.next;
+    let from = OPERATION_WORDS * next;
+    let to = from + OPERATION_WORDS;
+    let end = text::put_operation(out, at, &operations[from..to]);
+    let space = p.space;
+    let progress = Progress {
+        space,
+        count: p.count,
+        place: p.place,
+        next: next + 1,
+        left: p.left - 1,
+        stopped: p.stopped,
+    };
+    Turned {
+        progress,
+        taken: 0,
+        end,
+    }
+}
+
+// The bytes end before a record does, and more can come.
+fn waits(last: bool, response: Response) -> bool
+    ensures { λ b. ⌜ b ≡ waits last (responseTold response) ⌝ }
+{
+    if last {
+        return false;
+    }
+    match response {
+        Response::Emptied(_) => false,
+        Response::Granted(_) => false,
+        Response::Shows(_, _) => false,
+        Response::Refused(_) => false,
+        Response::OtherMark => false,
+        Response::Cut => true,
+        Response::End => true,
+    }
+}
+
+// How many operations are to be written for it.
+fn operation_count(response: Response) -> usize
+    ensures { λ n. ⌜ n ≡ operationCount (responseTold response) ⌝ }
+{
+    match response {
+        Response::Emptied(_) => 0,
+        Response::Granted(g) => g.operations,
+        Response::Shows(_, _) => 0,
+        Response::Refused(_) => 0,
+        Response::OtherMark => 0,
+        Response::Cut => 0,
+        Response::End => 0,
+    }
+}
+
+// The next record, if its bytes are there or no more come: the step, and the line of its answer.
+fn answer(
+    p: Progress,
+    table: &mut [u64],
+    operations: &mut [u64],
+    bytes: &[u8],
+    last: bool,
+    out: &mut [u8],
+    at: usize,
+) -> Turned
+    requires { ⌜ Ready p (now operations) (now bytes) × (p .left ≡ 0) × (p .stopped ≡ false) × (at + 320 ≤ length (now out)) ⌝ }
+    ensures { λ t. ⌜ Turns p (now (table .entry)) (now (operations .entry)) (now (bytes .entry)) last (now (out .entry)) at t (now (table .exit)) (now (operations .exit)) (now (out .exit)) ⌝ }
+{
+    let space = p.space;
+    let s = step(space, table, p.count, operations, bytes);
+    let response = s.response;
+    if waits(last, response) {
+        return Turned {
+            progress: p,
+            taken: 0,
+            end: at,
+        };
+    }
+    let end = text::put_response(out, at, p.place, response);
+    let held = s.space;
+    let taken = s.taken;
+    let progress = Progress {
+        space: held,
+        count: s.count,
+        place: p.place + taken as u64,
+        next: 0,
+        left: operation_count(response),
+        stopped: taken == 0,
+    };
+    Turned {
+        progress,
+        taken,
+        end,
+    }
+}
+
+// The next operation, or else the next record.
+fn turn(
+    p: Progress,
+    table: &mut [u64],
+    operations: &mut [u64],
+    bytes: &[u8],
+    last: bool,
+    out: &mut [u8],
+    at: usize,
+) -> Turned
+    requires { ⌜ Ready p (now operations) (now bytes) × (at + 320 ≤ length (now out)) ⌝ }
+    ensures { λ t. ⌜ Turns p (now (table .entry)) (now (operations .entry)) (now (bytes .entry)) last (now (out .entry)) at t (now (table .exit)) (now (operations .exit)) (now (out .exit)) ⌝ }
+{
+    if 0 < p.left {
+        return write_operation(p, operations, out, at);
+    }
+    let stopped = p.stopped;
+    if stopped {
+        return Turned {
+            progress: p,
+            taken: 0,
+            end: at,
+        };
+    }
+    answer(p, table, operations, bytes, last, out, at)
+}
+
+// Turns, until the output is nearly full or there is nothing to print from the bytes at hand.
+pub fn advance(
+    p: Progress,
+    table: &mut [u64],
+    operations: &mut [u64],
+    bytes: &[u8],
+    last: bool,
+    out: &mut [u8],
+) -> Turned
+    requires { ⌜ Ready p (now operations) (now bytes) ⌝ }
+    ensures { λ t. ⌜ Advances p (now (table .entry)) (now (operations .entry)) (now (bytes .entry)) last (now (out .entry)) t (now (table .exit)) (now (operations .exit)) (now (out .exit)) ⌝ }
+{
+    let mut progress = p;
+    let mut from: usize = 0;
+    let mut end: usize = 0;
+    while end + text::MOST_OPERATION <= out.len() {
+        let t = turn(progress, table, operations, &bytes[from..], last, out, end);
+        let next = t.progress;
+        progress = next;
+        from += t.taken;
+        if t.end <= end {
+            break;
+        }
+        end = t.end;
+    }
+    Turned {
+        progress,
+        taken: from,
+        end,
+    }
+}
+
+// Moves the unread bytes, from `from` up to `to`, to the front of the input, and answers how many they are.
+pub fn keep_unread(input: &mut [u8], from: usize, to: usize) -> usize
+    requires { ⌜ (from ≤ to) × (to ≤ length (now input)) ⌝ }
+    ensures { λ n. ⌜ (n ≡ to - from) × (now (input .exit) ≡ moved (now (input .entry)) from 0 n) ⌝ }
+{
+    let n = to - from;
+    let mut j: usize = 0;
+    while j < n {
+        input[j] = input[from + j];
+        j += 1;
+    }
+    n
+}

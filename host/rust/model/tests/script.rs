@@ -1,0 +1,386 @@
+//! The model's output for scripts, worked out by hand.
+
+use waylluqen_model::{script, write, Record, Space, PAGE, SCRIPT_MAPPINGS};
+
+const MAP: u32 = 0;
+const UNMAP: u32 = 1;
+const LIMIT: u64 = 1 << 48;
+
+fn space(start: u64, size: u64, reserved_start: u64, reserved_size: u64) -> Vec<u8> {
+    let space = Space {
+        start,
+        size,
+        reserved_start,
+        reserved_size,
+    };
+    write::space(&space).to_vec()
+}
+
+/// The fields in the order in which a mapping is printed.
+fn map(address: u64, size: u64, object: u32, offset: u64) -> Vec<u8> {
+    write::request(&Record::plain(MAP, object, address, offset, size)).to_vec()
+}
+
+fn unmap(address: u64, size: u64) -> Vec<u8> {
+    write::request(&Record::plain(UNMAP, 0, address, 0, size)).to_vec()
+}
+
+fn look_up(address: u64) -> Vec<u8> {
+    write::lookup(address).to_vec()
+}
+
+/// 16 pages, nothing reserved.
+fn plain_space() -> Vec<u8> {
+    space(0, 16 * PAGE, 0, 0)
+}
+
+/// These records make these lines.
+fn prints(records: &[Vec<u8>], lines: &[&str]) {
+    let lines: String = lines.iter().map(|line| format!("{line}\n")).collect();
+    assert_eq!(script(&records.concat()), lines);
+}
+
+/// Document 01's example, every byte of it.
+#[test]
+fn worked_example() {
+    let bytes: Vec<u8> = [
+        b"SP".as_slice(),
+        &[0, 0, 0, 0, 0, 0, 0, 0],
+        &[0, 0, 1, 0, 0, 0, 0, 0],
+        &[0, 0, 0, 0, 0, 0, 0, 0],
+        &[0, 0, 0, 0, 0, 0, 0, 0],
+        b"RQ",
+        &[0, 0, 0, 0, 0, 0, 0, 0, 7, 0, 0, 0, 0, 0, 0, 0],
+        &[0, 0, 0, 0, 0, 0, 0, 0],
+        &[0, 0, 0, 0, 0, 0, 0, 0],
+        &[0, 48, 0, 0, 0, 0, 0, 0],
+        b"RQ",
+        &[0, 0, 0, 0, 0, 0, 0, 0, 9, 0, 0, 0, 0, 0, 0, 0],
+        &[0, 16, 0, 0, 0, 0, 0, 0],
+        &[0, 0, 0, 0, 0, 0, 0, 0],
+        &[0, 16, 0, 0, 0, 0, 0, 0],
+        b"LK",
+        &[8, 32, 0, 0, 0, 0, 0, 0],
+    ]
+    .concat();
+    let records = [
+        space(0, 65536, 0, 0),
+        map(0, 12288, 7, 0),
+        map(4096, 4096, 9, 0),
+        look_up(8200),
+    ];
+    assert_eq!(records.concat(), bytes);
+    let printed = "space 256\n\
+                   granted 1 1\n\
+                   map 0 12288 7 0\n\
+                   granted 2 3\n\
+                   remap 0 12288 7 0 keep 0\n\
+                   lower 0 4096 7 0\n\
+                   upper 8192 4096 7 8192\n\
+                   map 4096 4096 9 0\n\
+                   at 8200 7 8200\n";
+    assert_eq!(script(&bytes), printed);
+}
+
+#[test]
+fn empty_script() {
+    assert_eq!(script(&[]), "");
+}
+
+#[test]
+fn numbers_are_decimal_and_whole() {
+    let highest = u64::from(u32::MAX);
+    prints(
+        &[
+            space(0, LIMIT, 0, 0),
+            map(LIMIT - 2 * PAGE, 2 * PAGE, u32::MAX, LIMIT - 2 * PAGE),
+            look_up(LIMIT - 1),
+            look_up(LIMIT),
+            look_up(u64::MAX),
+            look_up(highest + 1),
+        ],
+        &[
+            "space 256",
+            "granted 1 1",
+            "map 281474976702464 8192 4294967295 281474976702464",
+            "at 281474976710655 4294967295 281474976710655",
+            "at 281474976710656 none",
+            "at 18446744073709551615 none",
+            "at 4294967296 none",
+        ],
+    );
+}
+
+/// Each operation with each of its rests, and both keep marks.
+#[test]
+fn operations() {
+    prints(
+        &[
+            plain_space(),
+            map(0, 4 * PAGE, 7, 0),
+            // As it was: keep 1.
+            map(0, 4 * PAGE, 7, 0),
+            // The start alone: an upper rest, keep 1.
+            map(0, PAGE, 7, 0),
+            // The end alone: a lower rest.
+            unmap(3 * PAGE, 2 * PAGE),
+            // The start of another object, then nothing, then the rest.
+            map(PAGE, PAGE, 9, 5 * PAGE),
+            unmap(8 * PAGE, PAGE),
+            unmap(0, 16 * PAGE),
+        ],
+        &[
+            "space 256",
+            "granted 1 1",
+            "map 0 16384 7 0",
+            "granted 2 1",
+            "unmap 0 16384 7 0 keep 1",
+            "map 0 16384 7 0",
+            "granted 2 2",
+            "remap 0 16384 7 0 keep 1",
+            "upper 4096 12288 7 4096",
+            "map 0 4096 7 0",
+            "granted 1 2",
+            "remap 4096 12288 7 4096 keep 0",
+            "lower 4096 8192 7 4096",
+            "granted 2 3",
+            "remap 4096 8192 7 4096 keep 0",
+            "upper 8192 4096 7 8192",
+            "map 4096 4096 9 20480",
+            "granted 0 3",
+            "granted 3 0",
+            "unmap 0 4096 7 0 keep 0",
+            "unmap 4096 4096 9 20480 keep 0",
+            "unmap 8192 4096 7 8192 keep 0",
+        ],
+    );
+}
+
+#[test]
+fn lookups() {
+    prints(
+        &[
+            space(16 * PAGE, 16 * PAGE, 24 * PAGE, PAGE),
+            map(17 * PAGE, 2 * PAGE, 7, 3 * PAGE),
+            look_up(17 * PAGE - 1),
+            look_up(17 * PAGE),
+            look_up(19 * PAGE - 1),
+            look_up(19 * PAGE),
+            // In the reservation, below the space, and 0.
+            look_up(24 * PAGE),
+            look_up(16 * PAGE - 1),
+            look_up(0),
+        ],
+        &[
+            "space 256",
+            "granted 1 1",
+            "map 69632 8192 7 12288",
+            "at 69631 none",
+            "at 69632 7 12288",
+            "at 77823 7 20479",
+            "at 77824 none",
+            "at 98304 none",
+            "at 65535 none",
+            "at 0 none",
+        ],
+    );
+}
+
+/// The record itself, then the space, then the rest.
+#[test]
+fn before_any_space() {
+    let good = Record::plain(MAP, 7, 0, 0, PAGE);
+    let with = |change: fn(&mut Record)| {
+        let mut record = good;
+        change(&mut record);
+        write::request(&record).to_vec()
+    };
+    prints(
+        &[
+            with(|_| {}),
+            with(|record| record.op = 2),
+            with(|record| record.flags = 1),
+            with(|record| record.pad = 1 << 31),
+            with(|record| record.addr = 1),
+            look_up(0),
+            // Refused, so that there is still none.
+            space(0, 0, 0, 0),
+            with(|_| {}),
+            look_up(u64::MAX),
+        ],
+        &[
+            "refused 1",
+            "refused 13",
+            "refused 14",
+            "refused 14",
+            "refused 1",
+            "refused 1",
+            "refused 1",
+            "refused 1",
+            "refused 1",
+        ],
+    );
+}
+
+#[test]
+fn refused_requests() {
+    let raw = |record: Record| write::request(&record).to_vec();
+    let good = Record::plain(MAP, 7, 0, 0, PAGE);
+    prints(
+        &[
+            space(0, 16 * PAGE, 8 * PAGE, 2 * PAGE),
+            raw(Record { op: 2, ..good }),
+            raw(Record { op: 256, ..good }),
+            raw(Record { flags: 8, ..good }),
+            raw(Record { pad: 1, ..good }),
+            map(1, PAGE, 7, 0),
+            map(0, 0, 7, 0),
+            map(15 * PAGE, 2 * PAGE, 7, 0),
+            map(u64::MAX - PAGE + 1, 2 * PAGE, 7, 0),
+            map(7 * PAGE, 2 * PAGE, 7, 0),
+            unmap(9 * PAGE, PAGE),
+            map(0, PAGE, 0, 0),
+            raw(Record { op: UNMAP, ..good }),
+            map(0, 2 * PAGE, 7, LIMIT - PAGE),
+            map(0, 2 * PAGE, 7, u64::MAX - PAGE + 1),
+            // Nothing has come of them.
+            unmap(0, 8 * PAGE),
+        ],
+        &[
+            "space 256",
+            "refused 13",
+            "refused 13",
+            "refused 14",
+            "refused 14",
+            "refused 6",
+            "refused 6",
+            "refused 7",
+            "refused 7",
+            "refused 8",
+            "refused 8",
+            "refused 9",
+            "refused 9",
+            "refused 10",
+            "refused 10",
+            "granted 0 0",
+        ],
+    );
+}
+
+/// 256 mappings are all; room that a request frees counts.
+#[test]
+fn full_table() {
+    let mappings = SCRIPT_MAPPINGS as u64;
+    let mut records = vec![space(0, LIMIT, 0, 0)];
+    records.extend((0..mappings).map(|place| map(place * 3 * PAGE, 3 * PAGE, 7, 0)));
+    let before = script(&records.concat());
+    assert!(before.ends_with("granted 1 256\nmap 3133440 12288 7 0\n"));
+    let prints_then = |record: Vec<u8>, lines: &str| {
+        let bytes = [records.concat(), record].concat();
+        assert_eq!(script(&bytes), format!("{before}{lines}"));
+    };
+    prints_then(map(mappings * 3 * PAGE, PAGE, 8, 0), "refused 11\n");
+    prints_then(map(PAGE, PAGE, 8, 0), "refused 11\n");
+    prints_then(unmap(PAGE, PAGE), "refused 11\n");
+    prints_then(
+        map(0, 3 * PAGE, 8, 0),
+        "granted 2 256\nunmap 0 12288 7 0 keep 0\nmap 0 12288 8 0\n",
+    );
+    let unmaps: String = (0..mappings)
+        .map(|place| format!("unmap {} 12288 7 0 keep 0\n", place * 3 * PAGE))
+        .collect();
+    prints_then(
+        map(0, LIMIT, 8, 0),
+        &format!("granted 257 1\n{unmaps}map 0 281474976710656 8 0\n"),
+    );
+}
+
+#[test]
+fn refused_space_changes_nothing() {
+    prints(
+        &[
+            plain_space(),
+            map(0, PAGE, 7, 0),
+            space(PAGE, LIMIT, 0, 0),
+            space(0, 0, 0, 0),
+            look_up(1),
+            map(15 * PAGE, PAGE, 7, 0),
+            map(16 * PAGE, PAGE, 7, 0),
+        ],
+        &[
+            "space 256",
+            "granted 1 1",
+            "map 0 4096 7 0",
+            "refused 1",
+            "refused 1",
+            "at 1 7 1",
+            "granted 1 2",
+            "map 61440 4096 7 0",
+            "refused 7",
+        ],
+    );
+}
+
+#[test]
+fn granted_space_empties() {
+    prints(
+        &[
+            plain_space(),
+            map(0, PAGE, 7, 0),
+            space(0, 8 * PAGE, 0, 0),
+            look_up(1),
+            map(8 * PAGE, PAGE, 7, 0),
+            map(0, PAGE, 7, 0),
+        ],
+        &[
+            "space 256",
+            "granted 1 1",
+            "map 0 4096 7 0",
+            "space 256",
+            "at 1 none",
+            "refused 7",
+            "granted 1 1",
+            "map 0 4096 7 0",
+        ],
+    );
+}
+
+/// Whatever is missing behind a known mark, the record is cut, and the place is its mark's.
+#[test]
+fn cut_records() {
+    let (start, request, address) = (plain_space(), unmap(0, PAGE), look_up(5));
+    for missing in 1..=33 {
+        let cut = &start[..34 - missing];
+        assert_eq!(script(cut), "cut 0\n", "{missing} bytes missing");
+    }
+    for missing in 1..=41 {
+        let cut = [&start, &request[..42 - missing]].concat();
+        assert_eq!(script(&cut), "space 256\ncut 34\n");
+    }
+    for missing in 1..=9 {
+        let cut = [&start, &request, &address[..10 - missing]].concat();
+        assert_eq!(script(&cut), "space 256\ngranted 0 0\ncut 76\n");
+    }
+    // One byte that starts no mark.
+    assert_eq!(script(b"X"), "cut 0\n");
+    let left_over = [&start, &request, &address, b"\0".as_slice()].concat();
+    assert_eq!(
+        script(&left_over),
+        "space 256\ngranted 0 0\nat 5 none\ncut 86\n"
+    );
+}
+
+/// Two bytes that are no mark stop the program, however few or many stand behind them.
+#[test]
+fn other_marks() {
+    for mark in [
+        b"XY", b"PS", b"sp", b"SQ", b"SK", b"RP", b"LQ", b"\0\0", b"SS",
+    ] {
+        for behind in [0, 1, 8, 32, 40, 100] {
+            let other = [mark.as_slice(), &vec![b'S'; behind]].concat();
+            assert_eq!(script(&other), "mark 0\n");
+            let later = [plain_space(), look_up(0), other, look_up(0)].concat();
+            assert_eq!(script(&later), "space 256\nat 0 none\nmark 44\n");
+        }
+    }
+}
