@@ -1,4 +1,8 @@
 pub mod Reading
 pub mod Stepping
 pub mod Pending
-pub mod Going
+pub mod Coming
+pub mod Printing
+pub mod Turning
+pub mod Advancing
+pub mod Session

@@ -1,8 +1,8 @@
 -- One step by what the callee that does it answers.
 -- Assumes nothing.
-use mathlib.Core.Path.{_≡_, refl, sym, ap, subst, _∙_}
-use mathlib.Core.Bool.{Bool, true, false}
-use mathlib.Core.List.{List, [], _∷_}
+use mathlib.Core.Path.{_≡_, sym, subst}
+use mathlib.Core.Bool.{true, false}
+use mathlib.Core.List.{List}
 use Prim.Native.Nat.{ℕ, _-_, _/_, _≤_}
 use native.Mathlib.Omega.{arith}
 use lib.ListN.{length, replicate, length-replicate}
@@ -11,10 +11,10 @@ use Rattle.model.specs.declared.Answer.{Answer}
 use Rattle.model.specs.declared.Found.{Found}
 use Rattle.model.specs.declared.ScriptRecord.{ScriptRecord}
 use Rattle.model.specs.declared.ScriptRecord.the-variants.{SetSpace, Bind, LookUp}
-use Rattle.model.specs.Rows.{all, choose, Reply, refused, answered, decide}
+use Rattle.model.specs.Rows.{all, decide}
 use Rattle.model.specs.Rules.{spaceTests}
-use Rattle.model.specs.Calls.{bytes, Outcome, bind, lookup, answerReply, foundReply}
-use Rattle.model.specs.Script.{recordAt, recordSize, State, emptied, granted, shows, refusal, toldBy, Step, afterSpace, afterBind, requestIn, stepOn, step}
+use Rattle.model.specs.Calls.{bytes, bind, lookup, answerReply, foundReply}
+use Rattle.model.specs.Script.{recordAt, recordSize, State, emptied, granted, shows, refusal, toldBy, afterBind, requestIn, stepOn, step}
 use Rattle.model.proofs.ScriptRecords.{record-fits}
 use Rattle.table.specs.Places.{lent}
 use Rattle.words.specs.Words.{cleared}

@@ -87,25 +87,28 @@ pub fn read_record(bytes: &[u8]) -> ScriptRecord
     ScriptRecord::OtherMark
 }
 
+impl Stepped {
+    fn new(space: Space, count: usize, response: Response, taken: usize) -> Stepped
+        ensures { λ r. ⌜ r ≡ record { space = space; count = count; response = response; taken = taken } ⌝ }
+    {
+        Stepped {
+            space,
+            count,
+            response,
+            taken,
+        }
+    }
+}
+
 // `SP`: a granted one empties the table, a refused one changes nothing.
 fn set_space(s: Space, table: &mut [u64], count: usize, new: Space) -> Stepped
     ensures { λ r. ⌜ ((os bs : List ℕ) → Steps (stepOn (SetSpace new) (stateOf s (now (table .entry)) count os) bs) 34 r (now (table .exit)) os) ⌝ }
 {
     if !rules::space_keeps_rules(new) {
-        return Stepped {
-            space: s,
-            count,
-            response: Response::Refused(Refusal::BadSpace),
-            taken: SPACE_RECORD,
-        };
+        return Stepped::new(s, count, Response::Refused(Refusal::BadSpace), SPACE_RECORD);
     }
     words::clear_from(table, 0);
-    Stepped {
-        space: new,
-        count: 0,
-        response: Response::Emptied(table.len() / 4),
-        taken: SPACE_RECORD,
-    }
+    Stepped::new(new, 0, Response::Emptied(table.len() / 4), SPACE_RECORD)
 }
 
 // `RQ`: the request's 40 bytes go to the public call.
@@ -119,18 +122,8 @@ fn bind_request(
     ensures { λ r. ⌜ ((bs : List ℕ) → requestIn bs ≡ now (request .entry) → Steps (stepOn Bind (stateOf s (now (table .entry)) count (now (operations .entry))) bs) 42 r (now (table .exit)) (now (operations .exit))) ⌝ }
 {
     match bind::bind_record(s, table, count, operations, request) {
-        Answer::Granted(g) => Stepped {
-            space: s,
-            count: g.count,
-            response: Response::Granted(g),
-            taken: REQUEST_RECORD,
-        },
-        Answer::Refused(w) => Stepped {
-            space: s,
-            count,
-            response: Response::Refused(w),
-            taken: REQUEST_RECORD,
-        },
+        Answer::Granted(g) => Stepped::new(s, g.count, Response::Granted(g), REQUEST_RECORD),
+        Answer::Refused(w) => Stepped::new(s, count, Response::Refused(w), REQUEST_RECORD),
     }
 }
 
@@ -139,30 +132,8 @@ fn look_up(s: Space, table: &[u64], count: usize, x: u64) -> Stepped
     ensures { λ r. ⌜ ((os bs : List ℕ) → Steps (stepOn (LookUp x) (stateOf s (now (table .entry)) count os) bs) 10 r (now (table .entry)) os) ⌝ }
 {
     match bind::lookup(s, table, count, x) {
-        Found::Shows(shown) => Stepped {
-            space: s,
-            count,
-            response: Response::Shows(x, shown),
-            taken: ADDRESS_RECORD,
-        },
-        Found::Refused(w) => Stepped {
-            space: s,
-            count,
-            response: Response::Refused(w),
-            taken: ADDRESS_RECORD,
-        },
-    }
-}
-
-// Where the script ends nothing changes.
-fn stop(s: Space, count: usize, response: Response) -> Stepped
-    ensures { λ r. ⌜ r ≡ record { space = s; count = count; response = response; taken = 0 } ⌝ }
-{
-    Stepped {
-        space: s,
-        count,
-        response,
-        taken: 0,
+        Found::Shows(shown) => Stepped::new(s, count, Response::Shows(x, shown), ADDRESS_RECORD),
+        Found::Refused(w) => Stepped::new(s, count, Response::Refused(w), ADDRESS_RECORD),
     }
 }
 
@@ -181,9 +152,9 @@ pub fn step(
         ScriptRecord::SetSpace(new) => set_space(s, table, count, new),
         ScriptRecord::Bind => bind_request(s, table, count, operations, &bytes[2..REQUEST_RECORD]),
         ScriptRecord::LookUp(x) => look_up(s, table, count, x),
-        ScriptRecord::OtherMark => stop(s, count, Response::OtherMark),
-        ScriptRecord::Cut => stop(s, count, Response::Cut),
-        ScriptRecord::End => stop(s, count, Response::End),
+        ScriptRecord::OtherMark => Stepped::new(s, count, Response::OtherMark, 0),
+        ScriptRecord::Cut => Stepped::new(s, count, Response::Cut, 0),
+        ScriptRecord::End => Stepped::new(s, count, Response::End, 0),
     }
 }
 

@@ -3,7 +3,7 @@
 use Prim.Native.Nat.{_-_}
 use native.Mathlib.Omega.{arith}
 use lib.ListN.{length}
-use Rattle.script.proofs.Going.{Far, far-start, far-ready, far-next, far-idle, far-full}
+use Rattle.script.proofs.Advancing.{Far, far-start, far-ready, far-next, far-idle, far-full}
 use borrow.Author.Needs.{needs}
 use Rattle.script.proofs.advance.Statement.{statement}
 use Rattle.script.proofs.advance.Tie as tie

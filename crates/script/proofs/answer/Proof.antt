@@ -3,7 +3,7 @@
 use mathlib.Core.Path.{sym, _∙_}
 use native.Mathlib.Omega.{arith}
 use Rattle.model.proofs.ScriptRecords.{record-fits}
-use Rattle.script.proofs.Going.{answered-turns, waiting-turns}
+use Rattle.script.proofs.Turning.{answered-turns, waiting-turns}
 use borrow.Author.Needs.{needs}
 use Rattle.script.proofs.answer.Statement.{statement}
 use Rattle.script.proofs.answer.Tie as tie

@@ -12,8 +12,14 @@ bind-record-requires c κs = search needs
 enum-known-g : tie.Need-enum-known-g
 enum-known-g c = search needs
 
+new-requires : tie.Need-new-requires
+new-requires c κs = search needs
+
 enum-known-w : tie.Need-enum-known-w
 enum-known-w c = search needs
+
+new-requires-2 : tie.Need-new-requires-2
+new-requires-2 c κs = search needs
 
 same-length : tie.Need-same-length
 same-length c = search needs
@@ -22,7 +28,13 @@ same-length-2 : tie.Need-same-length-2
 same-length-2 c = search needs
 
 returns : tie.Need-returns
-returns c = let b = c .before .before .before .before .before .before .before in let a = b .before .before .before .before .before .before .args in λ bs e. record { leaves = bind-answered (a .s) (a .table .now) (a .count) (a .operations .now) bs e (b .bind-record .ensures) (c .before .g .given .1); takes = refl }
+returns c =
+    let b = c .before .before .before .before .before .before .before .before in
+    let a = b .before .before .before .before .before .before .args in
+    λ bs e. rw (c .new .ensures) (record {
+      leaves = bind-answered (a .s) (a .table .now) (a .count) (a .operations .now) bs e (b .bind-record .ensures) (c .before .before .g .given .1);
+      takes = refl;
+    })
 
 same-length-3 : tie.Need-same-length-3
 same-length-3 c = search needs
@@ -31,7 +43,13 @@ same-length-4 : tie.Need-same-length-4
 same-length-4 c = search needs
 
 returns-2 : tie.Need-returns-2
-returns-2 c = let b = c .before .before .before .before .before .before .before in let a = b .before .before .before .before .before .before .args in λ bs e. record { leaves = bind-answered (a .s) (a .table .now) (a .count) (a .operations .now) bs e (b .bind-record .ensures) (c .before .w .given .1); takes = refl }
+returns-2 c =
+    let b = c .before .before .before .before .before .before .before .before in
+    let a = b .before .before .before .before .before .before .args in
+    λ bs e. rw (c .new2 .ensures) (record {
+      leaves = bind-answered (a .s) (a .table .now) (a .count) (a .operations .now) bs e (b .bind-record .ensures) (c .before .before .w .given .1);
+      takes = refl;
+    })
 
 pub bind-request-spec : {M : Type 1} → statement M
 bind-request-spec =
@@ -39,7 +57,9 @@ bind-request-spec =
     (tie.spec
     bind-record-requires
     enum-known-g
+    new-requires
     enum-known-w
+    new-requires-2
     same-length
     same-length-2
     returns

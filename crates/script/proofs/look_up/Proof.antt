@@ -12,14 +12,41 @@ lookup-requires c κs = search needs
 enum-known-shown : tie.Need-enum-known-shown
 enum-known-shown c = search needs
 
+new-requires : tie.Need-new-requires
+new-requires c κs = search needs
+
 enum-known-w : tie.Need-enum-known-w
 enum-known-w c = search needs
 
+new-requires-2 : tie.Need-new-requires-2
+new-requires-2 c κs = search needs
+
 returns : tie.Need-returns
-returns c = let l = c .before .before .before in let a = l .before .before .args in λ os bs. record { leaves = lookup-answered (a .s) (a .table .now) (a .count) os bs _ (l .lookup .ensures) (c .before .shown .given .1); takes = refl }
+returns c =
+    let l = c .before .before .before .before in
+    let a = l .before .before .args in
+    λ os bs. rw (c .new .ensures) (record {
+      leaves = lookup-answered (a .s) (a .table .now) (a .count) os bs (a .x) (l .lookup .ensures) (c .before .before .shown .given .1);
+      takes = refl;
+    })
 
 returns-2 : tie.Need-returns-2
-returns-2 c = let l = c .before .before .before in let a = l .before .before .args in λ os bs. record { leaves = lookup-answered (a .s) (a .table .now) (a .count) os bs _ (l .lookup .ensures) (c .before .w .given .1); takes = refl }
+returns-2 c =
+    let l = c .before .before .before .before in
+    let a = l .before .before .args in
+    λ os bs. rw (c .new2 .ensures) (record {
+      leaves = lookup-answered (a .s) (a .table .now) (a .count) os bs (a .x) (l .lookup .ensures) (c .before .before .w .given .1);
+      takes = refl;
+    })
 
 pub look-up-spec : {M : Type 1} → statement M
-look-up-spec = tie.close (tie.spec lookup-requires enum-known-shown enum-known-w returns returns-2)
+look-up-spec =
+    tie.close
+    (tie.spec
+    lookup-requires
+    enum-known-shown
+    new-requires
+    enum-known-w
+    new-requires-2
+    returns
+    returns-2)

@@ -10,19 +10,44 @@ use Rattle.script.proofs.set_space.Tie as tie
 space-keeps-rules-requires : tie.Need-space-keeps-rules-requires
 space-keeps-rules-requires c κs = search needs
 
+new-requires : tie.Need-new-requires
+new-requires c κs = search needs
+
 returns : tie.Need-returns
-returns c = let a = c .before .before .before .args in λ os bs. record { leaves = space-refused (a .s) (a .table .now) (a .count) os bs (a .new) (failed (c .before .space-keeps-rules .ensures) (c .if1 .taken)); takes = refl }
+returns c =
+    let a = c .before .before .before .before .args in
+    λ os bs. rw (c .new .ensures) (record {
+      leaves = space-refused (a .s) (a .table .now) (a .count) os bs (a .new) (failed (c .before .before .space-keeps-rules .ensures) (c .before .if1 .taken));
+      takes = refl;
+    })
 
 clear-from-requires : tie.Need-clear-from-requires
 clear-from-requires c κs = search needs
+
+new-requires-2 : tie.Need-new-requires-2
+new-requires-2 c κs = search needs
 
 same-length : tie.Need-same-length
 same-length c = search needs
 
 returns-2 : tie.Need-returns-2
-returns-2 c = let k = c .before .before in let b = k .before .before in let a = b .before .before .before .args in λ os bs. record { leaves = space-granted (a .s) (a .table .now) (a .count) os bs (a .new) (held (b .before .space-keeps-rules .ensures) (b .if1 .left)) (k .clear-from .ensures); takes = refl }
+returns-2 c =
+    let k = c .before .before .before in
+    let b = k .before .before in
+    let a = b .before .before .before .args in
+    λ os bs. rw (c .new2 .ensures) (record {
+      leaves = space-granted (a .s) (a .table .now) (a .count) os bs (a .new) (held (b .before .space-keeps-rules .ensures) (b .if1 .left)) (k .clear-from .ensures);
+      takes = refl;
+    })
 
 pub set-space-spec : {M : Type 1} → statement M
 set-space-spec =
     tie.close
-    (tie.spec space-keeps-rules-requires returns clear-from-requires same-length returns-2)
+    (tie.spec
+    space-keeps-rules-requires
+    new-requires
+    returns
+    clear-from-requires
+    new-requires-2
+    same-length
+    returns-2)

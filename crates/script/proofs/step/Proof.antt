@@ -26,7 +26,10 @@ part-bind-request-start : tie.Need-part-bind-request-start
 part-bind-request-start c = search needs
 
 part-bind-request-end : tie.Need-part-bind-request-end
-part-bind-request-end c = let k = c .before .before in omega (arith, request-there (k .before .before .before .before .before .before .args .bytes .now) (sym (k .before .before .read-record .ensures) ∙ k .enum-told .given .1))
+part-bind-request-end c =
+    let k = c .before .before in
+    let r = k .before .before in
+    omega (arith, request-there (r .before .before .before .before .args .bytes .now) (sym (r .read-record .ensures) ∙ k .enum-told .given .1))
 
 bind-request-requires : tie.Need-bind-request-requires
 bind-request-requires c κs = search needs
@@ -40,26 +43,30 @@ look-up-requires c κs = search needs
 enum-told-2 : tie.Need-enum-told-2
 enum-told-2 c = search needs
 
-stop-requires : tie.Need-stop-requires
-stop-requires c κs = search needs
+new-requires : tie.Need-new-requires
+new-requires c κs = search needs
 
 enum-told-3 : tie.Need-enum-told-3
 enum-told-3 c = search needs
 
-stop-requires-2 : tie.Need-stop-requires-2
-stop-requires-2 c κs = search needs
+new-requires-2 : tie.Need-new-requires-2
+new-requires-2 c κs = search needs
 
 enum-told-4 : tie.Need-enum-told-4
 enum-told-4 c = search needs
 
-stop-requires-3 : tie.Need-stop-requires-3
-stop-requires-3 c κs = search needs
+new-requires-3 : tie.Need-new-requires-3
+new-requires-3 c κs = search needs
 
 same-length : tie.Need-same-length
 same-length c = search needs
 
 returns : tie.Need-returns
-returns c = let did = c .before .before in let r = did .before .before .before .before .before in let a = r .before .before .before .before .args in step-on (a .s) (a .table .now) (a .count) (a .operations .now) (a .bytes .now) (sym (r .read-record .ensures) ∙ did .before .before .before .new .given .1) (did .set-space .ensures (a .operations .now) (a .bytes .now))
+returns c =
+    let did = c .before .before in
+    let r = did .before .before .before .before .before in
+    let a = r .before .before .before .before .args in
+    step-on (a .s) (a .table .now) (a .count) (a .operations .now) (a .bytes .now) (sym (r .read-record .ensures) ∙ did .before .before .before .new .given .1) (did .set-space .ensures (a .operations .now) (a .bytes .now))
 
 same-length-2 : tie.Need-same-length-2
 same-length-2 c = search needs
@@ -68,22 +75,38 @@ same-length-3 : tie.Need-same-length-3
 same-length-3 c = search needs
 
 returns-2 : tie.Need-returns-2
-returns-2 c = let did = c .before .before .before .before in let r = did .before .before .before .before .before .before in let a = r .before .before .before .before .args in step-on (a .s) (a .table .now) (a .count) (a .operations .now) (a .bytes .now) (sym (r .read-record .ensures) ∙ did .before .before .before .before .enum-told .given .1) (did .bind-request .ensures (a .bytes .now) refl)
+returns-2 c =
+    let did = c .before .before .before .before in
+    let r = did .before .before .before .before .before .before in
+    let a = r .before .before .before .before .args in
+    step-on (a .s) (a .table .now) (a .count) (a .operations .now) (a .bytes .now) (sym (r .read-record .ensures) ∙ did .before .before .before .before .enum-told .given .1) (did .bind-request .ensures (a .bytes .now) refl)
 
 same-length-4 : tie.Need-same-length-4
 same-length-4 c = search needs
 
 returns-3 : tie.Need-returns-3
-returns-3 c = let r = c .before .before .before .before .before in let a = r .before .before .before .before .args in step-on (a .s) (a .table .now) (a .count) (a .operations .now) (a .bytes .now) (sym (r .read-record .ensures) ∙ c .before .before .before .x .given .1) (c .look-up .ensures (a .operations .now) (a .bytes .now))
+returns-3 c =
+    let r = c .before .before .before .before .before in
+    let a = r .before .before .before .before .args in
+    step-on (a .s) (a .table .now) (a .count) (a .operations .now) (a .bytes .now) (sym (r .read-record .ensures) ∙ c .before .before .before .x .given .1) (c .look-up .ensures (a .operations .now) (a .bytes .now))
 
 returns-4 : tie.Need-returns-4
-returns-4 c = let r = c .before .before .before in let a = r .before .before .before .before .args in step-on (a .s) (a .table .now) (a .count) (a .operations .now) (a .bytes .now) (sym (r .read-record .ensures) ∙ c .before .enum-told2 .given .1) (rw (c .stop .ensures) (record { leaves = refl; takes = refl }))
+returns-4 c =
+    let r = c .before .before .before in
+    let a = r .before .before .before .before .args in
+    step-on (a .s) (a .table .now) (a .count) (a .operations .now) (a .bytes .now) (sym (r .read-record .ensures) ∙ c .before .enum-told2 .given .1) (rw (c .new2 .ensures) (record { leaves = refl; takes = refl }))
 
 returns-5 : tie.Need-returns-5
-returns-5 c = let r = c .before .before .before in let a = r .before .before .before .before .args in step-on (a .s) (a .table .now) (a .count) (a .operations .now) (a .bytes .now) (sym (r .read-record .ensures) ∙ c .before .enum-told3 .given .1) (rw (c .stop2 .ensures) (record { leaves = refl; takes = refl }))
+returns-5 c =
+    let r = c .before .before .before in
+    let a = r .before .before .before .before .args in
+    step-on (a .s) (a .table .now) (a .count) (a .operations .now) (a .bytes .now) (sym (r .read-record .ensures) ∙ c .before .enum-told3 .given .1) (rw (c .new3 .ensures) (record { leaves = refl; takes = refl }))
 
 returns-6 : tie.Need-returns-6
-returns-6 c = let r = c .before .before .before in let a = r .before .before .before .before .args in step-on (a .s) (a .table .now) (a .count) (a .operations .now) (a .bytes .now) (sym (r .read-record .ensures) ∙ c .before .enum-told4 .given .1) (rw (c .stop3 .ensures) (record { leaves = refl; takes = refl }))
+returns-6 c =
+    let r = c .before .before .before in
+    let a = r .before .before .before .before .args in
+    step-on (a .s) (a .table .now) (a .count) (a .operations .now) (a .bytes .now) (sym (r .read-record .ensures) ∙ c .before .enum-told4 .given .1) (rw (c .new4 .ensures) (record { leaves = refl; takes = refl }))
 
 pub step-spec : {M : Type 1} → statement M
 step-spec =
@@ -100,11 +123,11 @@ step-spec =
     enum-known-x
     look-up-requires
     enum-told-2
-    stop-requires
+    new-requires
     enum-told-3
-    stop-requires-2
+    new-requires-2
     enum-told-4
-    stop-requires-3
+    new-requires-3
     same-length
     returns
     same-length-2

@@ -1,7 +1,7 @@
 -- `script::turn` meets its contract.
 -- Assumes nothing.
 use native.Mathlib.Omega.{arith}
-use Rattle.script.proofs.Going.{stopped-turns}
+use Rattle.script.proofs.Turning.{stopped-turns}
 use borrow.Author.Needs.{needs}
 use Rattle.script.proofs.turn.Statement.{statement}
 use Rattle.script.proofs.turn.Tie as tie

@@ -3,7 +3,7 @@
 use mathlib.Core.Path.{_≡_}
 use Prim.Native.Nat.{_+_, _-_, _*_}
 use native.Mathlib.Omega.{arith}
-use Rattle.script.proofs.Going.{operation-turns}
+use Rattle.script.proofs.Turning.{operation-turns}
 use borrow.Author.Needs.{needs}
 use Rattle.script.proofs.write_operation.Statement.{statement}
 use Rattle.script.proofs.write_operation.Tie as tie

@@ -1,0 +1,79 @@
+-- One turn after another.
+-- Assumes nothing.
+use mathlib.Core.Path.{_≡_, refl, sym, _∙_}
+use mathlib.Core.Logic.{inl, inr}
+use mathlib.Core.Bool.{Bool}
+use mathlib.Core.List.{List, _++_, append-assoc}
+use Prim.Native.Nat.{ℕ, _+_, _-_, _*_, _^_, _≤_, _<_}
+use native.Mathlib.Omega.{arith}
+use lib.ListN.{length, take, drop, length-append, length-drop}
+use lib.Seq.{take-all, drop-drop}
+use Rattle.words.proofs.Stored.{stored-behind}
+use Rattle.script.specs.declared.Progress.{Progress}
+use Rattle.script.specs.declared.Turned.{Turned}
+use Rattle.script.specs.Progress.{Ready, Goes, Turns, Advances}
+use Rattle.script.proofs.Turning.{goes-nowhere}
+
+-- one turn after another
+pub goes-further : {p : Progress} {ws os bs : List ℕ} {last : Bool} {out : List ℕ} {at : ℕ} {t u v : Turned} {ws' os' out' ws'' os'' out'' : List ℕ} → at ≤ length out
+    → Goes p ws os bs last out at t ws' os' out' → Goes (t .progress) ws' os' (drop (t .taken) bs) last out' (t .end) u ws'' os'' out''
+    → v ≡ record { progress = u .progress; taken = t .taken + u .taken; end = u .end } → Goes p ws os bs last out at v ws'' os'' out''
+goes-further {p} {ws} {os} {bs} {last} {out} {at} {t} {u} {v} h g k e = rw e (record {
+  text = g .text ++ k .text;
+  bytes = k .bytes ∙ rw (g .bytes, g .behind) (stored-behind out at (g .text) (k .text) h);
+  behind = omega (arith, g .behind, k .behind, length-append (g .text) (k .text));
+  goes-on = λ more ends. g .goes-on more ends ∙ rw (k .goes-on more ends, drop-drop (u .taken) (t .taken) bs) (sym (append-assoc (g .text) (k .text) _));
+  within = omega (arith, g .within, k .within, length-drop (t .taken) bs);
+  place = omega (arith, g .place, k .place);
+  held = k .held;
+})
+
+-- how far they have come, from the front of the output on
+pub record Far (p : Progress) (ws os bs : List ℕ) (last : Bool) (out : List ℕ) (t : Turned) (ws' os' out' : List ℕ) : Type 0 where
+  pub goes : Goes p ws os bs last out 0 t ws' os' out'
+  pub tables : length ws' ≡ length ws
+  pub operations : length os' ≡ length os
+  pub outputs : length out' ≡ length out
+  pub room : t .end ≤ length out
+
+pub far-start : (p : Progress) (ws os bs : List ℕ) (last : Bool) (out : List ℕ) → 14 * (p .next + p .left) ≤ length os
+    → Far p ws os bs last out (record { progress = p; taken = 0; end = 0 }) ws os out
+far-start p ws os bs last out held =
+    record { goes = goes-nowhere ws os bs last p refl refl held; tables = refl; operations = refl; outputs = refl; room = omega arith }
+
+-- the bytes from a place on, as code lends them
+pub lent-rest : (n : ℕ) (bs : List ℕ) → take (length bs - n) (drop n bs) ≡ drop n bs
+lent-rest n bs = take-all (length bs - n) (drop n bs) (simp length-drop (omega arith))
+
+module _ {p : Progress} {ws os bs : List ℕ} {last : Bool} {out : List ℕ} {t u : Turned} {ws' os' out' ws'' os'' out'' : List ℕ}
+    (far : Far p ws os bs last out t ws' os' out')
+    (turned : Turns (t .progress) ws' os' (take (length bs - t .taken) (drop (t .taken) bs)) last out' (t .end) u ws'' os'' out'') where
+  one-more : Turns (t .progress) ws' os' (drop (t .taken) bs) last out' (t .end) u ws'' os'' out''
+  one-more = rw (lent-rest (t .taken) bs) at turned
+
+  pub far-next : length ws'' ≡ length ws' → length os'' ≡ length os' → length out'' ≡ length out' → t .end + 320 ≤ length out'
+      → Far p ws os bs last out (record { progress = u .progress; taken = t .taken + u .taken; end = u .end }) ws'' os'' out''
+  far-next a b c room = record {
+    goes = goes-further (omega arith) (far .goes) (one-more .goes) refl;
+    tables = a ∙ far .tables;
+    operations = b ∙ far .operations;
+    outputs = c ∙ far .outputs;
+    room = omega (arith, one-more .most, far .outputs);
+  }
+
+  -- nothing was printed
+  pub far-idle : u .end ≤ t .end → Advances p ws os bs last out (record { progress = u .progress; taken = t .taken + u .taken; end = t .end }) ws'' os'' out''
+  far-idle h =
+      let e : u .end ≡ t .end = omega (arith, one-more .goes .behind) in
+      record {
+        goes = goes-further (omega arith) (far .goes) (one-more .goes) (rw e);
+        room = far .room;
+        ended = inr (rw (drop-drop (u .taken) (t .taken) bs) at (one-more .idle e));
+      }
+
+module _ {p : Progress} {ws os bs : List ℕ} {last : Bool} {out : List ℕ} {t : Turned} {ws' os' out' : List ℕ} (far : Far p ws os bs last out t ws' os' out') where
+  pub far-ready : p .place + length bs < 2 ^ 64 → Ready (t .progress) os' (take (length bs - t .taken) (drop (t .taken) bs))
+  far-ready h = rw (lent-rest (t .taken) bs) (record { places = omega (arith, far .goes .place, far .goes .within, length-drop (t .taken) bs); held = far .goes .held })
+
+  pub far-full : length out' < t .end + 320 → Advances p ws os bs last out t ws' os' out'
+  far-full h = record { goes = far .goes; room = far .room; ended = inl (omega (arith, far .outputs)) }

@@ -1,0 +1,30 @@
+-- A whole run of the program, and the claim about it: whatever the pieces in which a script comes, what is printed is its output.
+-- Assumes nothing.
+use mathlib.Core.Path.{_≡_}
+use mathlib.Core.Bool.{Bool, true, false}
+use mathlib.Core.List.{List, [], _++_}
+use Prim.Native.Nat.{ℕ}
+use lib.ListN.{drop}
+use Rattle.model.specs.Script.{start, output}
+use Rattle.script.specs.declared.Progress.{Progress}
+use Rattle.script.specs.declared.Turned.{Turned}
+use Rattle.script.specs.Progress.{startProgress, toCome, Goes}
+
+-- the bytes that have come, whether they are the last, those still unread, the text printed, and what the program holds: progress, table words, operation words
+pub data Session : List ℕ → Bool → List ℕ → List ℕ → Progress → List ℕ → List ℕ → Type 0 where
+  begun : Session [] false [] [] startProgress (start .table .words) (start .operations)
+  came : {bs unread text : List ℕ} {p : Progress} {ws os : List ℕ} → Session bs false unread text p ws os → (more : List ℕ)
+      → Session (bs ++ more) false (unread ++ more) text p ws os
+  ended : {bs unread text : List ℕ} {p : Progress} {ws os : List ℕ} → Session bs false unread text p ws os → Session bs true unread text p ws os
+  -- a call of `advance`, which leaves what it promises
+  printed : {bs : List ℕ} {last : Bool} {unread text : List ℕ} {p : Progress} {ws os out : List ℕ} {at : ℕ} {t : Turned} {ws' os' out' : List ℕ}
+      → Session bs last unread text p ws os → (g : Goes p ws os unread last out at t ws' os' out')
+      → Session bs last (drop (t .taken) unread) (text ++ g .text) (t .progress) ws' os'
+
+pub record Prints : Type 0 where
+  -- what has been printed and what is to come make up the script's output, whatever bytes may still come
+  pub whole : {bs : List ℕ} {last : Bool} {unread text : List ℕ} {p : Progress} {ws os : List ℕ} → Session bs last unread text p ws os
+      → (more : List ℕ) → (last ≡ true → more ≡ []) → text ++ toCome p ws os (unread ++ more) ≡ output (bs ++ more)
+  -- where the program has stopped and no operation is left, all of it has been printed
+  pub over : {bs : List ℕ} {last : Bool} {unread text : List ℕ} {p : Progress} {ws os : List ℕ} → Session bs last unread text p ws os
+      → p .left ≡ 0 → p .stopped ≡ true → (more : List ℕ) → (last ≡ true → more ≡ []) → text ≡ output (bs ++ more)
