@@ -35,5 +35,6 @@ pub mod Example
 pub mod Printed
 pub mod Decimal
 pub mod ScriptRecords
+pub mod ScriptWritten
 pub mod ScriptSpaces
 pub mod ScriptRefusals

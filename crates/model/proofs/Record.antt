@@ -8,7 +8,7 @@ use lib.ListN.{drop}
 use Rattle.model.specs.Calls.{littleEndian, requestOf, bytesOf, recordOf}
 use Rattle.model.specs.Exactly.{ReadsBack, RecordLayout}
 
-littleEndian-bytesOf : (n x : ℕ) (rest : List ℕ) → x < 256 ^ n → littleEndian n (bytesOf n x ++ rest) ≡ x
+pub littleEndian-bytesOf : (n x : ℕ) (rest : List ℕ) → x < 256 ^ n → littleEndian n (bytesOf n x ++ rest) ≡ x
 unfolding littleEndian bytesOf
 littleEndian-bytesOf zero x rest h = omega arith
 littleEndian-bytesOf (suc n) x rest h =

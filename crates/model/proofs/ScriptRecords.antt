@@ -31,9 +31,12 @@ number-append n i bs more h =
     ap (littleEndian n) (drop-append-le i bs more (omega arith)) ∙ littleEndian-append n (drop i bs) more (simp length-drop (omega arith))
 
 space-append : (bs more : List ℕ) → 34 ≤ length bs → spaceIn (bs ++ more) ≡ spaceIn bs
-space-append bs more h =
-    λ i. spaceOf (number-append 8 2 bs more (omega arith) i) (number-append 8 10 bs more (omega arith) i)
-    (number-append 8 18 bs more (omega arith) i) (number-append 8 26 bs more (omega arith) i)
+space-append bs more h = rw (
+  number-append 8 2 bs more (omega arith),
+  number-append 8 10 bs more (omega arith),
+  number-append 8 18 bs more (omega arith),
+  number-append 8 26 bs more (omega arith),
+)
 
 request-append : (bs more : List ℕ) → 42 ≤ length bs → requestIn (bs ++ more) ≡ requestIn bs
 request-append bs more h =

@@ -1,11 +1,11 @@
 -- What is claimed of the script program: its numbers, its records, the space that it sets, the refusals that it can give, and what some scripts print.
 use Prim.Native.String.{String}
-use Rattle.model.specs.Prelude.{_≡_, _⊎_, List, [], _∷_, _++_, ℕ, _+_, _-_, _*_, _/_, _≤_, _<_, length, getD, replicate, Space}
-use Rattle.model.specs.Calls.{bytesOf, recordOf}
+use Rattle.model.specs.Prelude.{_≡_, _⊎_, List, [], _∷_, _++_, ℕ, _+_, _-_, _*_, _/_, _^_, _≤_, _<_, length, getD, replicate, Space, Request}
+use Rattle.model.specs.Calls.{byNumbers, bytesOf, recordOf, spaceOf}
 use Rattle.model.specs.Exactly.{Each, _∈_, SpaceRules, Pins}
 use Rattle.model.specs.Text.{ascii, decimal}
-use Rattle.model.specs.Script.{recordAt, State, emptied, refusal, step, start, output, responseTold}
-use Rattle.model.specs.declared.ScriptRecord.the-variants.{SetSpace, Cut, End}
+use Rattle.model.specs.Script.{recordAt, requestIn, State, emptied, refusal, step, start, output, responseTold}
+use Rattle.model.specs.declared.ScriptRecord.the-variants.{SetSpace, Bind, LookUp, Cut, End}
 
 -- the number that decimal digits say, behind the number n
 abbrev pub readDecimal : ℕ → List ℕ → ℕ
@@ -18,6 +18,24 @@ pub record Decimal : Type 0 where
   pub digits : (n : ℕ) → Each (λ d. (48 ≤ d) × (d ≤ 57)) (decimal n)
   pub one-digit : (n : ℕ) → n < 10 → decimal n ≡ (48 + n) ∷ []
   pub no-zero : (n : ℕ) → 10 ≤ n → 48 < getD (decimal n) 0 0
+
+-- ── records ──
+
+abbrev pub setSpaceBytes : ℕ → ℕ → ℕ → ℕ → List ℕ
+setSpaceBytes start size from length = ascii "SP" ++ (bytesOf 8 start ++ (bytesOf 8 size ++ (bytesOf 8 from ++ bytesOf 8 length)))
+
+abbrev pub requestBytes : Request → List ℕ
+requestBytes r = ascii "RQ" ++ recordOf r
+
+abbrev pub lookUpBytes : ℕ → List ℕ
+lookUpBytes x = ascii "LK" ++ bytesOf 8 x
+
+-- a record is read as it was written: the marks, and the places of the numbers
+pub record ScriptReadsBack : Type 0 where
+  pub space : (start size from length : ℕ) → Each (λ x. x < 2 ^ 64) (start ∷ size ∷ from ∷ length ∷ [])
+      → recordAt (setSpaceBytes start size from length) ≡ SetSpace (spaceOf start size from length)
+  pub request : (r : Request) → (recordAt (requestBytes r) ≡ Bind) × (requestIn (requestBytes r) ≡ recordOf r)
+  pub address : (x : ℕ) → x < 2 ^ 64 → recordAt (lookUpBytes x) ≡ LookUp x
 
 -- a record whose bytes have come is the one that stands in the whole script, and does the same, whatever comes behind it
 abbrev pub Prefix : Type 0
@@ -50,19 +68,13 @@ NeverBroken = (st : State) → Reached st → (bs : List ℕ) (n p : ℕ) → st
 
 -- ── scripts, and what they print ──
 
-abbrev pub setSpaceBytes : ℕ → ℕ → ℕ → ℕ → List ℕ
-setSpaceBytes start size from length = ascii "SP" ++ (bytesOf 8 start ++ (bytesOf 8 size ++ (bytesOf 8 from ++ bytesOf 8 length)))
-
-abbrev pub requestBytes : ℕ → ℕ → ℕ → ℕ → ℕ → List ℕ
-requestBytes op object address offset size =
-    ascii "RQ" ++ recordOf (record { op = op; flags = 0; object = object; pad = 0; address = address; offset = offset; size = size })
-
-abbrev pub lookUpBytes : ℕ → List ℕ
-lookUpBytes x = ascii "LK" ++ bytesOf 8 x
+-- a request by its numbers
+abbrev pub numbersBytes : ℕ → ℕ → ℕ → ℕ → ℕ → List ℕ
+numbersBytes op object address offset size = requestBytes (byNumbers op address size object offset)
 
 -- document 01's example
 abbrev pub workedExample : List ℕ
-workedExample = setSpaceBytes 0 65536 0 0 ++ (requestBytes 0 7 0 0 12288 ++ (requestBytes 0 9 4096 0 4096 ++ lookUpBytes 8200))
+workedExample = setSpaceBytes 0 65536 0 0 ++ (numbersBytes 0 7 0 0 12288 ++ (numbersBytes 0 9 4096 0 4096 ++ lookUpBytes 8200))
 
 unfoldable pub scripts : List (List ℕ × String)
 scripts =
@@ -70,9 +82,9 @@ scripts =
     -- nothing; one byte; a mark alone; a record cut by its last byte; another mark
     ∷ ([], "") ∷ (83 ∷ [], "cut 0\n") ∷ (ascii "LK", "cut 0\n") ∷ (lookUpBytes 0 ++ (ascii "LK" ++ bytesOf 7 0), "refused 1\ncut 10\n") ∷ (ascii "sp", "mark 0\n")
     -- a reservation, a request in it, a second space; an unmap of an upper end, an address that shows nothing
-    ∷ (setSpaceBytes 4096 65536 8192 4096 ++ (requestBytes 0 7 8192 0 4096 ++ (setSpaceBytes 1 0 0 0 ++ ascii "XY")), "space 256\nrefused 8\nrefused 1\nmark 110\n")
+    ∷ (setSpaceBytes 4096 65536 8192 4096 ++ (numbersBytes 0 7 8192 0 4096 ++ (setSpaceBytes 1 0 0 0 ++ ascii "XY")), "space 256\nrefused 8\nrefused 1\nmark 110\n")
     ∷ (
-      setSpaceBytes 0 65536 0 0 ++ (requestBytes 0 7 0 0 8192 ++ (requestBytes 1 0 4096 0 8192 ++ (lookUpBytes 4096 ++ (setSpaceBytes 0 65536 0 0 ++ lookUpBytes 0)))),
+      setSpaceBytes 0 65536 0 0 ++ (numbersBytes 0 7 0 0 8192 ++ (numbersBytes 1 0 4096 0 8192 ++ (lookUpBytes 4096 ++ (setSpaceBytes 0 65536 0 0 ++ lookUpBytes 0)))),
       "space 256\ngranted 1 1\nmap 0 8192 7 0\ngranted 1 1\nremap 0 8192 7 0 keep 0\nlower 0 4096 7 0\nat 4096 none\nspace 256\nat 0 none\n",
     )
     ∷ []

@@ -10,9 +10,7 @@ ghost use Rattle.model.specs.Text.{decimal, spaced, shownLine};
 ghost use Rattle.model.specs.Script.{lines, responseTold};
 ghost use Rattle.text.specs.Lines.{Put, phraseOf, lineOf, keepOf, restOf, remapLines, wordLines};
 
-// The most bytes that the lines of a response, and of an operation, have.
-pub const MOST_RESPONSE: usize = 128;
-
+// The lines of an operation have no more bytes than this; an answer's line has fewer.
 pub const MOST_OPERATION: usize = 320;
 
 // A run of bytes.
