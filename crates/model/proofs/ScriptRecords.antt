@@ -11,7 +11,7 @@ use lib.ListN.{length, take, drop, length-append, length-drop}
 use lib.Seq.{length-take-le, take-append-le, drop-append-le}
 use borrow.Author.Tests.{le-leb, lt-leb, eqb-false, ne-eqb}
 use Rattle.model.specs.Rows.{choose}
-use Rattle.model.specs.Calls.{littleEndian, recordBytes, spaceOf}
+use Rattle.model.specs.Calls.{littleEndian, recordBytes}
 use Rattle.model.specs.Script.{hasMark, whole, spaceIn, recordAt, recordSize, State, requestIn, stepOn, step, lines, operationsIn, run}
 use Rattle.model.specs.Scripts.{Prefix}
 use Rattle.model.specs.declared.ScriptRecord.{ScriptRecord}

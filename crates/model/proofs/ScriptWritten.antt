@@ -1,7 +1,7 @@
 -- A script's records are read as they were written.
 -- Assumes nothing.
 use mathlib.Core.Path.{refl, ap}
-use mathlib.Core.List.{List, []}
+use mathlib.Core.List.{[]}
 use lib.ListN.{drop}
 use Rattle.model.specs.Calls.{bytesOf, recordOf, spaceOf}
 use Rattle.model.specs.Text.{ascii}

@@ -1,1 +1,2 @@
+pub mod Refills
 pub mod Rounds

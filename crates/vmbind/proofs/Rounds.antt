@@ -1,26 +1,36 @@
--- What holds after the bytes at hand were printed.
+-- What holds after the bytes at hand were printed, and how a session goes on.
 -- Assumes nothing.
-use mathlib.Core.Path.{_≡_, sym, ap, _∙_}
+use mathlib.Core.Path.{_≡_, sym, ap, subst, _∙_}
 use mathlib.Core.Logic.{_⊎_, inl, inr}
 use mathlib.Core.Bool.{Bool, true, false}
-use mathlib.Core.List.{List}
+use mathlib.Core.List.{List, [], _++_, append-nil}
 use Prim.Native.Nat.{ℕ, _+_, _-_, _≤_, _<_}
 use native.Mathlib.Omega.{arith}
-use lib.ListN.{length, drop, length-drop}
-use lib.Seq.{length-take-le}
+use lib.ListN.{length, take, drop, length-drop}
+use lib.Seq.{length-take-le, take-add, drop-at, drop-drop}
 use Rattle.model.specs.Rows.{choose}
 use Rattle.model.specs.Script.{recordAt}
 use Rattle.model.specs.declared.ScriptRecord.the-variants.{Cut, End}
+use Rattle.script.specs.declared.Progress.{Progress}
 use Rattle.script.specs.declared.Turned.{Turned}
 use Rattle.script.specs.Progress.{Idle, Advances}
+use Rattle.script.specs.Session.{Session, came, ended, printed}
 use Rattle.script.proofs.Reading.{short-length}
 use Rattle.vmbind.specs.declared.Run.{Run}
-use Rattle.vmbind.specs.Buffers.{unread, Held}
+use Rattle.vmbind.specs.Buffers.{part, unread, Refilled, Held, Carries}
 
-pub held-over : {r : Run} {os : List ℕ} {n : ℕ} → Held r os n → Held (record { progress = r .progress; from = r .from; to = r .to; last = r .last; over = true }) os n
-held-over h = record { order = h .order; inside = h .inside; there = h .there }
+-- a run that is over, or goes on as it is
+pub carries-same : (r : Run) (ws os input : List ℕ) (over : Bool) → Held r os (length input)
+    → Carries r ws os input (record { progress = r .progress; from = r .from; to = r .to; last = r .last; over = over }) ws os input
+carries-same r ws os input over h = record {
+  held = record { order = h .order; inside = h .inside; there = h .there };
+  session = λ {bs} {text} s. ([], [], rw (append-nil bs, append-nil text) s);
+}
 
-module _ (r : Run) {os : List ℕ} {n : ℕ} (h : Held r os n) (input : List ℕ) (whole : n ≡ length input) where
+drop-part : (k n : ℕ) (xs : List ℕ) → k ≤ length xs → drop k (take (k + n) xs) ≡ take n (drop k xs)
+drop-part k n xs h = ap (drop k) (take-add k n xs) ∙ drop-at (take k xs) _ k (length-take-le k xs h)
+
+module _ (r : Run) {os : List ℕ} (input : List ℕ) (h : Held r os (length input)) where
   unread-length : length (unread r input) ≡ r .to - r .from
   unread-length = length-take-le (r .to - r .from) (drop (r .from) input) (simp length-drop (omega (arith, h .order, h .inside)))
 
@@ -28,20 +38,60 @@ module _ (r : Run) {os : List ℕ} {n : ℕ} (h : Held r os n) (input : List ℕ
     pub taken-within : r .from + t .taken ≤ r .to
     taken-within = omega (arith, h .order, a .goes .within, unread-length)
 
-    pub held-next : (over : Bool) → Held (record { progress = t .progress; from = r .from + t .taken; to = r .to; last = r .last; over = over }) os' n
-    held-next over = record { order = taken-within; inside = h .inside; there = a .goes .held }
+    -- what is unread afterwards
+    rest : drop (t .taken) (unread r input) ≡ part input (r .from + t .taken) (r .to)
+    rest =
+        let e : r .to - r .from ≡ t .taken + (r .to - (r .from + t .taken)) = omega (arith, taken-within) in
+        ap (λ (n : ℕ). drop (t .taken) (take n (drop (r .from) input))) e
+        ∙ drop-part (t .taken) (r .to - (r .from + t .taken)) (drop (r .from) input) (simp length-drop (omega (arith, taken-within, h .inside)))
+        ∙ ap (take (r .to - (r .from + t .taken))) (drop-drop (t .taken) (r .from) input)
 
-    -- where there was room for more, and the program has not stopped, it waits for more bytes: less than a record is unread
-    pub few-unread : t .end + 320 ≤ length out → t .progress .stopped ≡ false → r .to < r .from + t .taken + 42
-    few-unread room going = go (a .ended)
+    pub carries-on : (over : Bool) → Carries r ws os input (record { progress = t .progress; from = r .from + t .taken; to = r .to; last = r .last; over = over }) ws' os' input
+    carries-on over = record {
+      held = record { order = taken-within; inside = h .inside; there = a .goes .held };
+      session = λ {bs} {text} s. ([], a .goes .text, rw (append-nil bs, ← rest) (printed s (a .goes)));
+    }
+
+    -- where there was room for more, and the program has not stopped, it waits for more bytes
+    Waits : Type 0
+    Waits = (r .last ≡ false) × ((recordAt (drop (t .taken) (unread r input)) ≡ Cut) ⊎ (recordAt (drop (t .taken) (unread r input)) ≡ End))
+
+    waiting : t .end + 320 ≤ length out → t .progress .stopped ≡ false → Waits
+    unfolding Waits
+    waiting room going = go (a .ended)
       where
-        rest : List ℕ
-        rest = drop (t .taken) (unread r input)
+        by : (t .progress .stopped ≡ true) ⊎ Waits → Waits
+        by (inl e) = let z : _≡_ {A = ℕ} 0 1 = ap (λ (b : Bool). choose b 0 1) (sym e ∙ going) in absurd (omega arith)
+        by (inr k) = k
 
-        go : (length out < t .end + 320) ⊎ Idle (t .progress) rest (r .last) → r .to < r .from + t .taken + 42
+        go : (length out < t .end + 320) ⊎ Idle (t .progress) (drop (t .taken) (unread r input)) (r .last) → Waits
         go (inl full) = absurd (omega arith)
         go (inr idle) = by (idle .because)
-          where
-            by : (t .progress .stopped ≡ true) ⊎ ((r .last ≡ false) × ((recordAt rest ≡ Cut) ⊎ (recordAt rest ≡ End))) → r .to < r .from + t .taken + 42
-            by (inl e) = let z : _≡_ {A = ℕ} 0 1 = ap (λ (b : Bool). choose b 0 1) (sym e ∙ going) in absurd (omega arith)
-            by (inr k) = omega (arith, short-length rest (k .1), length-drop (t .taken) (unread r input), unread-length, taken-within)
+
+    -- and less than a record is unread
+    pub few-unread : t .end + 320 ≤ length out → t .progress .stopped ≡ false → r .to < r .from + t .taken + 42
+    unfolding Waits
+    few-unread room going =
+        omega (arith, short-length _ (waiting room going .1), length-drop (t .taken) (unread r input), unread-length, taken-within)
+
+    pub carries-refilled : t .end + 320 ≤ length out → t .progress .stopped ≡ false → {q : Run} {input' : List ℕ}
+        → Refilled (t .progress) (part input (r .from + t .taken) (r .to)) q input' → Carries r ws os input q ws' os' input'
+    unfolding Waits
+    carries-refilled room going {q} {input'} f = record {
+      held = record { order = f .order; inside = f .inside; there = rw (f .same) (a .goes .held) };
+      session = λ {bs} {text} s. (f .more, a .goes .text, rw (f .same, f .behind, ← rest) (ends (q .last) (came (subst (λ (l : Bool). Session bs l (drop (t .taken) (unread r input)) (text ++ a .goes .text) (t .progress) ws' os') (waiting room going .0) (printed s (a .goes))) (f .more))));
+    }
+      where
+        ends : {bs unread text : List ℕ} {p : Progress} {ws os : List ℕ} (last : Bool) → Session bs false unread text p ws os → Session bs last unread text p ws os
+        ends true s = ended s
+        ends false s = s
+
+-- between two rounds: some bytes have come, some text was printed, and the session is there
+pub record Going (r : Run) (ws os input : List ℕ) : Type 0 where
+  pub bytes : List ℕ
+  pub text : List ℕ
+  pub held : Held r os (length input)
+  pub session : Session bytes (r .last) (unread r input) text (r .progress) ws os
+
+pub goes-on : {r q : Run} {ws os input ws' os' input' : List ℕ} → Going r ws os input → Carries r ws os input q ws' os' input' → Going q ws' os' input'
+goes-on g c = let s = c .session (g .session) in record { bytes = g .bytes ++ s .0; text = g .text ++ s .1; held = c .held; session = s .2 }

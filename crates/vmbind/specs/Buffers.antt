@@ -1,10 +1,11 @@
--- The unread bytes in the input buffer, and what holds between two reads.
+-- The unread bytes in the input buffer, and what reading and printing leave of a session.
 -- Assumes nothing.
 use mathlib.Core.Path.{_≡_}
-use mathlib.Core.List.{List}
+use mathlib.Core.List.{List, _++_}
 use Prim.Native.Nat.{ℕ, _+_, _-_, _*_, _≤_}
 use lib.ListN.{length, take, drop}
 use Rattle.script.specs.declared.Progress.{Progress}
+use Rattle.script.specs.Session.{Session}
 use Rattle.vmbind.specs.declared.Run.{Run}
 use Rattle.vmbind.specs.declared.Got.{Got}
 use Rattle.vmbind.specs.declared.Got.the-variants.{Bytes, Nothing, Failure}
@@ -14,8 +15,25 @@ bytesIn (Bytes n) = n
 bytesIn Nothing = 0
 bytesIn Failure = 0
 
+-- the bytes from one place of the input up to another
+abbrev pub part : List ℕ → ℕ → ℕ → List ℕ
+part input from to = take (to - from) (drop from input)
+
 abbrev pub unread : Run → List ℕ → List ℕ
-unread r input = take (r .to - r .from) (drop (r .from) input)
+unread r input = part input (r .from) (r .to)
+
+-- a read behind the bytes that are kept leaves them, and what it brings lies in the input
+pub record Brings (before : List ℕ) (kept : ℕ) (g : Got) (after : List ℕ) : Type 0 where
+  pub inside : kept + bytesIn g ≤ length after
+  pub same : take kept after ≡ take kept before
+
+-- after a refill the unread bytes are those that were, and others behind them
+pub record Refilled (p : Progress) (bs : List ℕ) (r : Run) (input : List ℕ) : Type 0 where
+  pub same : r .progress ≡ p
+  pub order : r .from ≤ r .to
+  pub inside : r .to ≤ length input
+  pub more : List ℕ
+  pub behind : unread r input ≡ bs ++ more
 
 -- the unread bytes lie in an input of n bytes, and the operations still to be written in the words os
 pub record Held (r : Run) (os : List ℕ) (n : ℕ) : Type 0 where
@@ -23,7 +41,8 @@ pub record Held (r : Run) (os : List ℕ) (n : ℕ) : Type 0 where
   pub inside : r .to ≤ n
   pub there : 14 * (r .progress .next + r .progress .left) ≤ length os
 
-pub record Refilled (p : Progress) (n : ℕ) (r : Run) : Type 0 where
-  pub same : r .progress ≡ p
-  pub order : r .from ≤ r .to
-  pub inside : r .to ≤ n
+-- a round goes on with a session: some bytes more have come, and some text more was printed
+pub record Carries (run : Run) (ws os input : List ℕ) (r : Run) (ws' os' input' : List ℕ) : Type 0 where
+  pub held : Held r os' (length input')
+  pub session : {bs text : List ℕ} → Session bs (run .last) (unread run input) text (run .progress) ws os
+      → (more : List ℕ) × (printed : List ℕ) × Session (bs ++ more) (r .last) (unread r input') (text ++ printed) (r .progress) ws' os'

@@ -6,14 +6,13 @@ use libc::STDOUT_FILENO;
 use script::Progress;
 use script::Turned;
 ghost use mathlib.Core.Path.{_≡_};
-ghost use Prim.Native.Nat.{_+_, _≤_, _<_};
-ghost use lib.ListN.{length};
-ghost use Prim.Native.Nat.{_^_};
 ghost use mathlib.Core.Bool.{true};
+ghost use Prim.Native.Nat.{_+_, _^_, _≤_, _<_};
+ghost use lib.ListN.{length};
 ghost use Rattle.script.specs.Progress.{Advances};
-ghost use Rattle.vmbind.specs.Buffers.{bytesIn, unread, Held, Refilled};
+ghost use Rattle.vmbind.specs.Buffers.{part, unread, Brings, Refilled, Held, Carries};
 
-// The buffers, 57,456 bytes together.
+// The buffers, 57,456 bytes together: a table of 256 mappings, the operations of a request on it, input and output.
 const TABLE_WORDS: usize = 1024;
 
 const OPERATION_WORDS: usize = 3598;
@@ -22,7 +21,7 @@ const INPUT_BYTES: usize = 8192;
 
 const OUTPUT_BYTES: usize = 12288;
 
-// A script that long can't be counted in 64 bits.
+// Byte places below it, with the input behind them, fit 64 bits.
 const MOST_PLACE: u64 = 0x8000_0000_0000_0000;
 
 // Between two reads: the unread bytes stand in the input from `from` up to `to`; no more come if they are the last.
@@ -48,7 +47,7 @@ fn fail(message: &[u8]) {
 // Reads once, behind the bytes that are kept. There is room for one more, so that no byte means the end of the input.
 fn read_behind(input: &mut [u8], kept: usize) -> Got
     requires { ⌜ kept < length (now input) ⌝ }
-    ensures { λ g. ⌜ kept + bytesIn g ≤ length (now (input .exit)) ⌝ }
+    ensures { λ g. ⌜ Brings (now (input .entry)) kept g (now (input .exit)) ⌝ }
 {
     let got = libc::read(STDIN_FILENO, &mut input[kept..]);
     if got < 0 {
@@ -64,7 +63,7 @@ fn read_behind(input: &mut [u8], kept: usize) -> Got
 // Keeps the unread bytes, and reads more behind them.
 fn refill(input: &mut [u8], progress: Progress, from: usize, to: usize) -> Run
     requires { ⌜ (from ≤ to) × (to < from + length (now input)) × (to ≤ length (now input)) ⌝ }
-    ensures { λ r. ⌜ Refilled progress (length (now (input .exit))) r ⌝ }
+    ensures { λ r. ⌜ Refilled progress (part (now (input .entry)) from to) r (now (input .exit)) ⌝ }
 {
     let kept = script::keep_unread(input, from, to);
     match read_behind(input, kept) {
@@ -95,7 +94,7 @@ fn refill(input: &mut [u8], progress: Progress, from: usize, to: usize) -> Run
     }
 }
 
-// Lends the unread bytes.
+// Lends the unread bytes, and puts what they give into the output.
 fn print(
     run: Run,
     table: &mut [u64],
@@ -127,8 +126,8 @@ fn round(
     output: &mut [u8; OUTPUT_BYTES],
     run: Run,
 ) -> Run
-    requires { ⌜ Held run (now operations) 8192 ⌝ }
-    ensures { λ r. ⌜ Held r (now (operations .exit)) 8192 ⌝ }
+    requires { ⌜ Held run (now operations) (length (now input)) ⌝ }
+    ensures { λ r. ⌜ Carries run (now (table .entry)) (now (operations .entry)) (now (input .entry)) r (now (table .exit)) (now (operations .exit)) (now (input .exit)) ⌝ }
 {
     if MOST_PLACE <= run.progress.place {
         fail(b"vmbind: the script is too long\n");
@@ -158,6 +157,7 @@ fn round(
     refill(input, progress, from, next.to)
 }
 
+// The program is over.
 fn ended(run: Run) -> Run
     ensures { λ r. ⌜ r ≡ record { progress = run .progress; from = run .from; to = run .to; last = run .last; over = true } ⌝ }
 {

@@ -1,14 +1,16 @@
--- `vmbind::main` meets its contract: it is safe.
+-- `vmbind::main` meets its contract. The loop's invariant: what the program holds and has printed is a session of the bytes that have come.
 -- Assumes nothing.
+use mathlib.Core.List.{[]}
 use native.Mathlib.Omega.{arith}
-use Rattle.vmbind.specs.Buffers.{Held}
+use Rattle.script.specs.Session.{begun}
+use Rattle.vmbind.proofs.Rounds.{Going, goes-on}
 use borrow.Author.Needs.{needs}
 use Rattle.vmbind.proofs.main.Statement.{statement}
 use Rattle.vmbind.proofs.main.Tie as tie
 
 abbrev Inv-loop : tie.InvT-loop
 Inv-loop table₀ operations₀ input₀ output₀ run₀ rounds₀ t7 table operations input output run rounds =
-    Held run operations 8192
+    Going run table operations input
 
 abbrev μ-loop : tie.MeasureT-loop
 μ-loop table₀ operations₀ input₀ output₀ run₀ rounds₀ t7 table operations input output run rounds =
@@ -18,10 +20,10 @@ start-requires : tie.Need-start-requires Inv-loop μ-loop
 start-requires c κs = search needs
 
 loop-holds : tie.Need-loop-holds Inv-loop μ-loop
-loop-holds c = rw (c .start .ensures) (record { order = omega arith; inside = omega arith; there = omega arith })
+loop-holds c = rw (c .start .ensures) (record { bytes = []; text = []; held = record { order = omega arith; inside = omega arith; there = omega arith }; session = begun })
 
 round-requires : tie.Need-round-requires Inv-loop μ-loop
-round-requires c κs = search needs
+round-requires c κs = c .before .before .before .before .before .loop .inv .held
 
 returns : tie.Need-returns Inv-loop μ-loop
 returns c = search needs
@@ -33,7 +35,7 @@ loop-less : tie.Need-loop-less Inv-loop μ-loop
 loop-less c = search needs
 
 loop-again : tie.Need-loop-again Inv-loop μ-loop
-loop-again c = search needs
+loop-again c = goes-on (c .before .before .before .before .before .before .before .loop .inv) (c .before .round .ensures)
 
 slice-aggregate-fail : tie.Need-slice-aggregate-fail Inv-loop μ-loop
 slice-aggregate-fail c = search needs

@@ -1,7 +1,9 @@
 -- `vmbind::refill` meets its contract.
 -- Assumes nothing.
-use mathlib.Core.Path.{refl}
+use mathlib.Core.Bool.{true, false}
 use native.Mathlib.Omega.{arith}
+use Rattle.vmbind.specs.declared.Got.the-variants.{Bytes, Nothing, Failure}
+use Rattle.vmbind.proofs.Refills.{refills}
 use borrow.Author.Needs.{needs}
 use Rattle.vmbind.proofs.refill.Statement.{statement}
 use Rattle.vmbind.proofs.refill.Tie as tie
@@ -16,7 +18,7 @@ enum-known-n : tie.Need-enum-known-n
 enum-known-n c = search needs
 
 add-t14 : tie.Need-add-t14
-add-t14 c = omega (arith, rw (c .before .n .given .1) at (c .before .before .before .before .before .read-behind .ensures))
+add-t14 c = omega (arith, rw (c .before .n .given .1) at (c .before .before .before .before .before .read-behind .ensures .inside))
 
 enum-told : tie.Need-enum-told
 enum-told c = search needs
@@ -34,19 +36,34 @@ same-length : tie.Need-same-length
 same-length c = search needs
 
 returns : tie.Need-returns
-returns c = record { same = refl; order = omega arith; inside = rw (c .before .n .given .1) at (c .before .before .before .before .before .read-behind .ensures) }
+returns c =
+    let b = c .before .before .before .before .before in
+    let k = b .before .before .before .before in
+    let s = k .before .before .before in
+    let a = s .args in
+    refills (a .progress) (a .input .now) (a .from) (a .to) false false (Bytes (c .before .n .given .0 .0)) (omega arith) (s .pre .0) (s .pre .2) (k .keep-unread .ensures .0) (k .keep-unread .ensures .1) (rw (c .before .n .given .1) at (b .read-behind .ensures))
 
 same-length-2 : tie.Need-same-length-2
 same-length-2 c = search needs
 
 returns-2 : tie.Need-returns-2
-returns-2 c = search needs
+returns-2 c =
+    let b = c .before .before .before .before in
+    let k = b .before .before .before .before in
+    let s = k .before .before .before in
+    let a = s .args in
+    refills (a .progress) (a .input .now) (a .from) (a .to) true false Nothing (omega arith) (s .pre .0) (s .pre .2) (k .keep-unread .ensures .0) (k .keep-unread .ensures .1) (rw (c .enum-told .given .1) at (b .read-behind .ensures))
 
 same-length-3 : tie.Need-same-length-3
 same-length-3 c = search needs
 
 returns-3 : tie.Need-returns-3
-returns-3 c = search needs
+returns-3 c =
+    let b = c .before .before .before .before .before .before in
+    let k = b .before .before .before .before in
+    let s = k .before .before .before in
+    let a = s .args in
+    refills (a .progress) (a .input .now) (a .from) (a .to) false true Failure (omega arith) (s .pre .0) (s .pre .2) (k .keep-unread .ensures .0) (k .keep-unread .ensures .1) (rw (c .before .before .enum-told2 .given .1) at (b .read-behind .ensures))
 
 pub refill-spec : {M : Type 1} → statement M
 refill-spec =

@@ -1,10 +1,8 @@
 -- `vmbind::round` meets its contract.
 -- Assumes nothing.
-use mathlib.Core.Path.{_≡_}
 use mathlib.Core.Bool.{true, false}
 use native.Mathlib.Omega.{arith}
-use lib.ListN.{length}
-use Rattle.vmbind.proofs.Rounds.{held-over, taken-within, held-next, few-unread}
+use Rattle.vmbind.proofs.Rounds.{carries-same, taken-within, carries-on, few-unread, carries-refilled}
 use borrow.Author.Needs.{needs}
 use Rattle.vmbind.proofs.round.Statement.{statement}
 use Rattle.vmbind.proofs.round.Tie as tie
@@ -19,7 +17,10 @@ ended-requires : tie.Need-ended-requires
 ended-requires c κs = search needs
 
 returns : tie.Need-returns
-returns c = rw (c .ended .ensures) (held-over (c .before .before .before .before .before .pre))
+returns c =
+    let s = c .before .before .before .before .before in
+    let a = s .args in
+    rw (c .ended .ensures) (carries-same (a .run) (a .table .now) (a .operations .now) (a .input .now) true (s .pre))
 
 print-requires : tie.Need-print-requires
 print-requires c κs = search needs
@@ -28,8 +29,7 @@ add-from : tie.Need-add-from
 add-from c =
     let k = c .before .before .before in
     let s = k .before .before .before .before .before .before .before .before in
-    let e : 8192 ≡ length (s .args .input .now) = omega arith in
-    omega (arith, taken-within (s .args .run) (s .pre) (s .args .input .now) e (k .print .ensures), s .pre .inside)
+    omega (arith, taken-within (s .args .run) (s .args .input .now) (s .pre) (k .print .ensures), s .pre .inside)
 
 write-out-requires : tie.Need-write-out-requires
 write-out-requires c κs =
@@ -49,8 +49,7 @@ returns-2 : tie.Need-returns-2
 returns-2 c =
     let k = c .before .before .before .before .before .before .before .before .before .before in
     let s = k .before .before .before .before .before .before .before .before in
-    let e : 8192 ≡ length (s .args .input .now) = omega arith in
-    rw (c .ended2 .ensures) (held-next (s .args .run) (s .pre) (s .args .input .now) e (k .print .ensures) true)
+    rw (c .ended2 .ensures) (carries-on (s .args .run) (s .args .input .now) (s .pre) (k .print .ensures) true)
 
 add-if3 : tie.Need-add-if3
 add-if3 c =
@@ -61,8 +60,7 @@ returns-3 : tie.Need-returns-3
 returns-3 c =
     let k = c .before .before .before .before .before .before .before .before in
     let s = k .before .before .before .before .before .before .before .before in
-    let e : 8192 ≡ length (s .args .input .now) = omega arith in
-    held-next (s .args .run) (s .pre) (s .args .input .now) e (k .print .ensures) false
+    carries-on (s .args .run) (s .args .input .now) (s .pre) (k .print .ensures) false
 
 ended-requires-3 : tie.Need-ended-requires-3
 ended-requires-3 c κs = search needs
@@ -71,21 +69,19 @@ returns-4 : tie.Need-returns-4
 returns-4 c =
     let k = c .before .before .before .before .before .before .before .before .before .before in
     let s = k .before .before .before .before .before .before .before .before in
-    let e : 8192 ≡ length (s .args .input .now) = omega arith in
-    rw (c .ended3 .ensures) (held-next (s .args .run) (s .pre) (s .args .input .now) e (k .print .ensures) true)
+    rw (c .ended3 .ensures) (carries-on (s .args .run) (s .args .input .now) (s .pre) (k .print .ensures) true)
 
 refill-requires : tie.Need-refill-requires
 refill-requires c κs =
     let k = c .before .before .before .before .before .before .before .before .before .before in
     let s = k .before .before .before .before .before .before .before .before in
-    let e : 8192 ≡ length (s .args .input .now) = omega arith in
-    (taken-within (s .args .run) (s .pre) (s .args .input .now) e (k .print .ensures), omega (arith, few-unread (s .args .run) (s .pre) (s .args .input .now) e (k .print .ensures) (omega (arith, c .before .before .if3 .left)) (c .before .if4 .left)), omega (arith, s .pre .inside))
+    (taken-within (s .args .run) (s .args .input .now) (s .pre) (k .print .ensures), omega (arith, few-unread (s .args .run) (s .args .input .now) (s .pre) (k .print .ensures) (omega (arith, c .before .before .if3 .left)) (c .before .if4 .left)), omega (arith, s .pre .inside))
 
 returns-5 : tie.Need-returns-5
 returns-5 c =
     let k = c .before .before .before .before .before .before .before .before .before .before .before in
-    let f = c .refill .ensures in
-    record { order = f .order; inside = omega (arith, f .inside, c .refill .kept .0); there = rw (f .same) (k .print .ensures .goes .held) }
+    let s = k .before .before .before .before .before .before .before .before in
+    carries-refilled (s .args .run) (s .args .input .now) (s .pre) (k .print .ensures) (omega (arith, c .before .before .before .if3 .left)) (c .before .before .if4 .left) (c .refill .ensures)
 
 pub round-spec : {M : Type 1} → statement M
 round-spec =

@@ -1,0 +1,44 @@
+-- The unread bytes stay in front of what a read brings.
+-- Assumes nothing.
+use mathlib.Core.Path.{_≡_, refl, ap, _∙_}
+use mathlib.Core.Bool.{Bool}
+use mathlib.Core.List.{List, _++_}
+use Prim.Native.Nat.{ℕ, _+_, _-_, _≤_}
+use native.Mathlib.Omega.{arith}
+use lib.ListN.{length, take, drop, length-drop}
+use lib.Seq.{length-take-le, take-add}
+use borrow.Rule.Slice.PartMut.{midOf, putMid, same-len-mid, take-put}
+use Rattle.words.specs.Words.{moved}
+use Rattle.words.proofs.Moved.{moved-is}
+use Rattle.words.proofs.Stored.{take-stored-end}
+use Rattle.script.specs.declared.Progress.{Progress}
+use Rattle.vmbind.specs.declared.Got.{Got}
+use Rattle.vmbind.specs.Buffers.{bytesIn, part, Brings, Refilled}
+
+pub brings : (input : List ℕ) (kept : ℕ) (g : Got) (ys : List ℕ) → kept + bytesIn g ≤ length input → length ys ≡ length (midOf kept (length input - kept) input)
+    → Brings input kept g (putMid kept (length input - kept) input ys)
+brings input kept g ys h l = record {
+  inside = omega (arith, same-len-mid kept (length input - kept) input ys l);
+  same = take-put kept (length input - kept) input ys (omega arith);
+}
+
+moved-front : (ws : List ℕ) (from n : ℕ) → from + n ≤ length ws → take n (moved ws from 0 n) ≡ take n (drop from ws)
+moved-front ws from n h =
+    let run : List ℕ = take n (drop from ws) in
+    let l : 0 + length run ≡ n = omega (arith, length-take-le n (drop from ws) (simp length-drop (omega arith))) in
+    ap (take n) (moved-is ws from 0 n) ∙ (rw l at (take-stored-end ws 0 run (omega arith)))
+
+pub refills : (p : Progress) (input : List ℕ) (from to : ℕ) (last over : Bool) {n end : ℕ} {kept after : List ℕ} (g : Got) → end ≡ n + bytesIn g → from ≤ to → to ≤ length input → n ≡ to - from
+    → kept ≡ moved input from 0 n → Brings kept n g after
+    → Refilled p (part input from to) (record { progress = p; from = 0; to = end; last = last; over = over }) after
+refills p input from to last over {n} {end} {kept} {after} g t o i e k b = record {
+  same = refl;
+  order = omega arith;
+  inside = omega (arith, b .inside);
+  more = take (bytesIn g) (drop n after);
+  behind =
+      let z : end - 0 ≡ n + bytesIn g = omega arith in
+      let front : take n after ≡ part input from to =
+      b .same ∙ ap (take n) k ∙ moved-front input from n (omega arith) ∙ ap (λ (m : ℕ). take m (drop from input)) e in
+      rw z (take-add n (bytesIn g) after ∙ ap (λ (l : List ℕ). l ++ take (bytesIn g) (drop n after)) front);
+}
