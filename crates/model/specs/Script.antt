@@ -13,7 +13,7 @@ use Rattle.model.specs.declared.Response.the-variants.{Emptied, Granted,
 
 -- ── what stands at the front of the bytes ──
 
--- two bytes, and behind them n more
+-- its first two bytes are the mark a b; it is whole if n bytes stand behind them, else the end cuts it
 abbrev pub hasMark : ℕ → ℕ → List ℕ → Bool
 hasMark a b bs = eqb (getD bs 0 0) a && eqb (getD bs 1 0) b
 
@@ -24,7 +24,7 @@ whole n bs e = choose (leb (2 + n) (length bs)) e Cut
 abbrev pub spaceIn : List ℕ → Space
 spaceIn bs = spaceOf (littleEndian 8 (drop 2 bs)) (littleEndian 8 (drop 10 bs)) (littleEndian 8 (drop 18 bs)) (littleEndian 8 (drop 26 bs))
 
--- SP, RQ, LK; another mark; one left-over byte and a record cut by the end; the end
+-- in this order: the end; one left-over byte, which is cut; SP (83 80), RQ (82 81), LK (76 75); another mark
 unfoldable pub recordAt : List ℕ → ScriptRecord
 recordAt bs =
     choose (eqb (length bs) 0) End (choose (eqb (length bs) 1) Cut

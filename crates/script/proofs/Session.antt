@@ -4,11 +4,10 @@ use mathlib.Core.Path.{_≡_, refl, sym, ap, _∙_}
 use mathlib.Core.Bool.{Bool, true}
 use mathlib.Core.List.{List, [], _++_, append-assoc, append-nil}
 use Prim.Native.Nat.{ℕ}
-use native.Mathlib.Omega.{arith}
-use Rattle.model.specs.Rows.{choose}
 use Rattle.model.specs.Script.{output}
 use Rattle.script.specs.declared.Progress.{Progress}
 use Rattle.script.specs.Progress.{pending, toCome}
+use Rattle.script.proofs.Coming.{never}
 use Rattle.script.specs.Session.{Session, begun, came, ended, printed, Prints}
 
 so-far : {bs : List ℕ} {last : Bool} {unread text : List ℕ} {p : Progress} {ws os : List ℕ} → Session bs last unread text p ws os
@@ -16,7 +15,7 @@ so-far : {bs : List ℕ} {last : Bool} {unread text : List ℕ} {p : Progress} {
 unfolding toCome pending output
 so-far begun more ends = refl
 so-far (came {bs = bs} {unread = unread} s now) more ends =
-    rw (append-assoc unread now more, append-assoc bs now more) (so-far s (now ++ more) (λ e. let z : _≡_ {A = ℕ} 1 0 = ap (λ (b : Bool). choose b 0 1) e in absurd (omega arith)))
+    rw (append-assoc unread now more, append-assoc bs now more) (so-far s (now ++ more) (λ e. never (sym e)))
 so-far (ended s) more ends = so-far s more (λ e. ends refl)
 so-far (printed {text = text} s g) more ends = append-assoc text (g .text) _ ∙ ap (_++_ text) (sym (g .goes-on more ends)) ∙ so-far s more ends
 

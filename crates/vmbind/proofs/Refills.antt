@@ -5,11 +5,11 @@ use mathlib.Core.Bool.{Bool}
 use mathlib.Core.List.{List, _++_}
 use Prim.Native.Nat.{ℕ, _+_, _-_, _≤_}
 use native.Mathlib.Omega.{arith}
-use lib.ListN.{length, take, drop, length-drop}
-use lib.Seq.{length-take-le, take-add}
+use lib.ListN.{length, take, drop}
+use lib.Seq.{take-add}
 use borrow.Rule.Slice.PartMut.{midOf, putMid, same-len-mid, take-put}
 use Rattle.words.specs.Words.{moved}
-use Rattle.words.proofs.Moved.{moved-is}
+use Rattle.words.proofs.Moved.{length-part, moved-is}
 use Rattle.words.proofs.Stored.{take-stored-end}
 use Rattle.script.specs.declared.Progress.{Progress}
 use Rattle.vmbind.specs.declared.Got.{Got}
@@ -25,7 +25,7 @@ brings input kept g ys h l = record {
 moved-front : (ws : List ℕ) (from n : ℕ) → from + n ≤ length ws → take n (moved ws from 0 n) ≡ take n (drop from ws)
 moved-front ws from n h =
     let run : List ℕ = take n (drop from ws) in
-    let l : 0 + length run ≡ n = omega (arith, length-take-le n (drop from ws) (simp length-drop (omega arith))) in
+    let l : 0 + length run ≡ n = omega (arith, length-part ws from n h) in
     ap (take n) (moved-is ws from 0 n) ∙ (rw l at (take-stored-end ws 0 run (omega arith)))
 
 pub refills : (p : Progress) (input : List ℕ) (from to : ℕ) (last over : Bool) {n end : ℕ} {kept after : List ℕ} (g : Got) → end ≡ n + bytesIn g → from ≤ to → to ≤ length input → n ≡ to - from

@@ -7,15 +7,17 @@ use mathlib.Core.List.{List, [], _++_, append-nil}
 use Prim.Native.Nat.{ℕ, _+_, _-_, _≤_, _<_}
 use native.Mathlib.Omega.{arith}
 use lib.ListN.{length, take, drop, length-drop}
-use lib.Seq.{length-take-le, take-add, drop-at, drop-drop}
-use Rattle.model.specs.Rows.{choose}
+use lib.Seq.{drop-drop}
 use Rattle.model.specs.Script.{recordAt}
 use Rattle.model.specs.declared.ScriptRecord.the-variants.{Cut, End}
 use Rattle.script.specs.declared.Progress.{Progress}
 use Rattle.script.specs.declared.Turned.{Turned}
 use Rattle.script.specs.Progress.{Idle, Advances}
 use Rattle.script.specs.Session.{Session, came, ended, printed}
+use Rattle.words.proofs.Stored.{drop-take}
+use Rattle.words.proofs.Moved.{length-part}
 use Rattle.script.proofs.Reading.{short-length}
+use Rattle.script.proofs.Coming.{never}
 use Rattle.vmbind.specs.declared.Run.{Run}
 use Rattle.vmbind.specs.Buffers.{part, unread, Refilled, Held, Carries}
 
@@ -27,12 +29,9 @@ carries-same r ws os input over h = record {
   session = λ {bs} {text} s. ([], [], rw (append-nil bs, append-nil text) s);
 }
 
-drop-part : (k n : ℕ) (xs : List ℕ) → k ≤ length xs → drop k (take (k + n) xs) ≡ take n (drop k xs)
-drop-part k n xs h = ap (drop k) (take-add k n xs) ∙ drop-at (take k xs) _ k (length-take-le k xs h)
-
 module _ (r : Run) {os : List ℕ} (input : List ℕ) (h : Held r os (length input)) where
   unread-length : length (unread r input) ≡ r .to - r .from
-  unread-length = length-take-le (r .to - r .from) (drop (r .from) input) (simp length-drop (omega (arith, h .order, h .inside)))
+  unread-length = length-part input (r .from) (r .to - r .from) (omega (arith, h .order, h .inside))
 
   module _ {ws out : List ℕ} {t : Turned} {ws' os' out' : List ℕ} (a : Advances (r .progress) ws os (unread r input) (r .last) out t ws' os' out') where
     pub taken-within : r .from + t .taken ≤ r .to
@@ -43,7 +42,7 @@ module _ (r : Run) {os : List ℕ} (input : List ℕ) (h : Held r os (length inp
     rest =
         let e : r .to - r .from ≡ t .taken + (r .to - (r .from + t .taken)) = omega (arith, taken-within) in
         ap (λ (n : ℕ). drop (t .taken) (take n (drop (r .from) input))) e
-        ∙ drop-part (t .taken) (r .to - (r .from + t .taken)) (drop (r .from) input) (simp length-drop (omega (arith, taken-within, h .inside)))
+        ∙ drop-take (t .taken) (r .to - (r .from + t .taken)) (drop (r .from) input) (simp length-drop (omega (arith, taken-within, h .inside)))
         ∙ ap (take (r .to - (r .from + t .taken))) (drop-drop (t .taken) (r .from) input)
 
     pub carries-on : (over : Bool) → Carries r ws os input (record { progress = t .progress; from = r .from + t .taken; to = r .to; last = r .last; over = over }) ws' os' input
@@ -61,7 +60,7 @@ module _ (r : Run) {os : List ℕ} (input : List ℕ) (h : Held r os (length inp
     waiting room going = go (a .ended)
       where
         by : (t .progress .stopped ≡ true) ⊎ Waits → Waits
-        by (inl e) = let z : _≡_ {A = ℕ} 0 1 = ap (λ (b : Bool). choose b 0 1) (sym e ∙ going) in absurd (omega arith)
+        by (inl e) = never (sym e ∙ going)
         by (inr k) = k
 
         go : (length out < t .end + 320) ⊎ Idle (t .progress) (drop (t .taken) (unread r input)) (r .last) → Waits

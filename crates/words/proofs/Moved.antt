@@ -9,7 +9,7 @@ use lib.Seq.{length-take-le, take-add, drop-drop, getD-drop}
 use Rattle.words.specs.Words.{stored, moved}
 use Rattle.words.proofs.Stored.{drop-stored, part-stored, stored-none, stored-next, stored-behind, stored-before}
 
-length-part : (ws : List ℕ) (from n : ℕ) → from + n ≤ length ws → length (take n (drop from ws)) ≡ n
+pub length-part : (ws : List ℕ) (from n : ℕ) → from + n ≤ length ws → length (take n (drop from ws)) ≡ n
 length-part ws from n h = length-take-le n (drop from ws) (simp length-drop (omega arith))
 
 pub moved-is : (ws : List ℕ) (from to n : ℕ) → moved ws from to n ≡ stored ws to (take n (drop from ws))

@@ -21,7 +21,9 @@ use std::os::fd::OwnedFd;
 use std::os::unix::net::UnixStream;
 use std::process::{Command, Stdio};
 use std::thread;
+use std::time::Duration;
 use waylluqen_model::random::Random;
+use waylluqen_model::script::{first_part, Part, MARK_BYTES};
 use waylluqen_model::{script, write, Mapping, Record, PAGE};
 
 /// The program reads into a buffer of this many bytes, and gathers about so many to write.
@@ -284,6 +286,36 @@ fn fifty_megabytes() {
     tally.print();
     tally.assert_kinds(&LINES, 1000);
     tally.assert_kinds(&["granted"], 1_000_000);
+}
+
+/// Whoever writes a record and waits for its lines gets them before writing the next one.
+#[test]
+fn lines_before_more_input() {
+    let (mut reader, writer) = UnixStream::pair().expect("two sockets");
+    let patience = Duration::from_secs(60);
+    reader.set_read_timeout(Some(patience)).expect("not zero");
+    let mut child = Command::new(path())
+        .stdin(Stdio::piped())
+        .stdout(OwnedFd::from(writer))
+        .spawn()
+        .expect("the program starts");
+    let mut stdin = child.stdin.take().expect("a pipe");
+    let bytes = good_script(&mut Random::new(361), 300).bytes;
+    let (mut at, mut printed) = (0, 0);
+    while let Part::Record(_, record) = first_part(&bytes[at..]) {
+        let end = at + MARK_BYTES + record.len();
+        stdin.write_all(&bytes[at..end]).expect("the program reads");
+        let lines = script(&bytes[..end]);
+        let mut out = vec![0; lines.len() - printed];
+        reader
+            .read_exact(&mut out)
+            .expect("lines before the next record");
+        assert!(out == lines.as_bytes()[printed..]);
+        (at, printed) = (end, lines.len());
+    }
+    assert_eq!(at, bytes.len());
+    drop(stdin);
+    assert!(child.wait().expect("it was started here").success());
 }
 
 /// A place above 2^32: 4 GiB of requests that are refused, since no record has more bytes and prints fewer. It takes some
