@@ -1,7 +1,6 @@
 -- The unread bytes stay in front of what a read brings.
 -- Assumes nothing.
 use mathlib.Core.Path.{_≡_, refl, ap, _∙_}
-use mathlib.Core.Bool.{Bool}
 use mathlib.Core.List.{List, _++_}
 use Prim.Native.Nat.{ℕ, _+_, _-_, _≤_}
 use native.Mathlib.Omega.{arith}
@@ -13,7 +12,7 @@ use Rattle.words.proofs.Moved.{length-part, moved-is}
 use Rattle.words.proofs.Stored.{take-stored-end}
 use Rattle.script.specs.declared.Progress.{Progress}
 use Rattle.vmbind.specs.declared.Got.{Got}
-use Rattle.vmbind.specs.Buffers.{bytesIn, part, Brings, Refilled}
+use Rattle.vmbind.specs.Buffers.{bytesIn, isLast, isOver, part, Brings, Refilled}
 
 pub brings : (input : List ℕ) (kept : ℕ) (g : Got) (ys : List ℕ) → kept + bytesIn g ≤ length input → length ys ≡ length (midOf kept (length input - kept) input)
     → Brings input kept g (putMid kept (length input - kept) input ys)
@@ -28,14 +27,16 @@ moved-front ws from n h =
     let l : 0 + length run ≡ n = omega (arith, length-part ws from n h) in
     ap (take n) (moved-is ws from 0 n) ∙ (rw l at (take-stored-end ws 0 run (omega arith)))
 
-pub refills : (p : Progress) (input : List ℕ) (from to : ℕ) (last over : Bool) {n end : ℕ} {kept after : List ℕ} (g : Got) → end ≡ n + bytesIn g → from ≤ to → to ≤ length input → n ≡ to - from
+pub refills : (p : Progress) (input : List ℕ) (from to : ℕ) {n end : ℕ} {kept after : List ℕ} (g : Got) → end ≡ n + bytesIn g → from ≤ to → to ≤ length input → n ≡ to - from
     → kept ≡ moved input from 0 n → Brings kept n g after
-    → Refilled p (part input from to) (record { progress = p; from = 0; to = end; last = last; over = over }) after
-refills p input from to last over {n} {end} {kept} {after} g t o i e k b = record {
+    → Refilled p (part input from to) (record { progress = p; from = 0; to = end; last = isLast g; over = isOver g }) after
+refills p input from to {n} {end} {kept} {after} g t o i e k b = record {
   same = refl;
   order = omega arith;
   inside = omega (arith, b .inside);
   more = take (bytesIn g) (drop n after);
+  got = g;
+  brought = (length-part after n (bytesIn g) (b .inside), refl, refl);
   behind =
       let z : end - 0 ≡ n + bytesIn g = omega arith in
       let front : take n after ≡ part input from to =

@@ -10,7 +10,7 @@ ghost use mathlib.Core.Bool.{true};
 ghost use Prim.Native.Nat.{_+_, _^_, _≤_, _<_};
 ghost use lib.ListN.{length};
 ghost use Rattle.script.specs.Progress.{Advances};
-ghost use Rattle.vmbind.specs.Buffers.{part, unread, Brings, Refilled, Held, Carries};
+ghost use Rattle.vmbind.specs.Buffers.{gotOf, part, unread, Brings, Refilled, Held, Carries};
 
 // The buffers, 57,456 bytes together: a table of 256 mappings, the operations of a request on it, input and output.
 const TABLE_WORDS: usize = 1024;
@@ -44,20 +44,27 @@ fn fail(message: &[u8]) {
     io::write_all(STDERR_FILENO, message);
 }
 
+// What a read's answer says, where there was room for some bytes: a negative one is a failure, and none is the end.
+fn brought(answer: isize, rest: &[u8]) -> Got
+    ensures { λ g. ⌜ g ≡ gotOf answer (length (now (rest .entry))) ⌝ }
+{
+    if answer < 0 {
+        return Got::Failure;
+    }
+    let n = io::count(answer, rest);
+    if n == 0 {
+        return Got::Nothing;
+    }
+    Got::Bytes(n)
+}
+
 // Reads once, behind the bytes that are kept. There is room for one more, so that no byte means the end of the input.
 fn read_behind(input: &mut [u8], kept: usize) -> Got
     requires { ⌜ kept < length (now input) ⌝ }
     ensures { λ g. ⌜ Brings (now (input .entry)) kept g (now (input .exit)) ⌝ }
 {
-    let got = libc::read(STDIN_FILENO, &mut input[kept..]);
-    if got < 0 {
-        return Got::Failure;
-    }
-    let n = io::count(got, &input[kept..]);
-    if n == 0 {
-        return Got::Nothing;
-    }
-    Got::Bytes(n)
+    let answer = libc::read(STDIN_FILENO, &mut input[kept..]);
+    brought(answer, &input[kept..])
 }
 
 // Keeps the unread bytes, and reads more behind them.

@@ -1,8 +1,12 @@
 -- `vmbind::read_behind` meets its contract.
 -- Assumes nothing.
+use Prim.Native.Nat.{_-_}
 use native.Mathlib.Omega.{arith}
-use lib.ListN.{length-drop}
-use Rattle.vmbind.specs.declared.Got.the-variants.{Bytes, Nothing, Failure}
+use lib.ListN.{length}
+use mir.Syntax.{w64}
+use mir.Val.{toZ, ofZ}
+use borrow.Rule.Slice.PartMut.{putMid, same-len-mid}
+use Rattle.vmbind.proofs.Answers.{brought-most}
 use Rattle.vmbind.proofs.Refills.{brings}
 use borrow.Author.Needs.{needs}
 use Rattle.vmbind.proofs.read_behind.Statement.{statement}
@@ -20,44 +24,29 @@ part-read-end c = search needs
 read-requires : tie.Need-read-requires
 read-requires c κs = search needs
 
+sub-brought : tie.Need-sub-brought
+sub-brought c = search needs
+
+part-brought-start : tie.Need-part-brought-start
+part-brought-start c = search needs
+
+part-brought-end : tie.Need-part-brought-end
+part-brought-end c = search needs
+
+brought-requires : tie.Need-brought-requires
+brought-requires c κs = search needs
+
 same-length : tie.Need-same-length
 same-length c = search needs
 
 returns : tie.Need-returns
 returns c =
-    let r = c .before .before .before in
+    let r = c .before .before .before .before .before in
     let s = r .before .before .before in
-    brings (s .args .input .now) (s .args .kept) Failure (r .read .last .1 .0) (omega (arith, s .pre)) (r .read .kept .1 .0)
-
-sub-count : tie.Need-sub-count
-sub-count c = search needs
-
-part-count-start : tie.Need-part-count-start
-part-count-start c = search needs
-
-part-count-end : tie.Need-part-count-end
-part-count-end c = search needs
-
-count-requires : tie.Need-count-requires
-count-requires c κs = search needs
-
-same-length-2 : tie.Need-same-length-2
-same-length-2 c = search needs
-
-returns-2 : tie.Need-returns-2
-returns-2 c =
-    let r = c .before .before .before .before .before .before .before in
-    let s = r .before .before .before in
-    brings (s .args .input .now) (s .args .kept) Nothing (r .read .last .1 .0) (omega (arith, s .pre)) (r .read .kept .1 .0)
-
-same-length-3 : tie.Need-same-length-3
-same-length-3 c = search needs
-
-returns-3 : tie.Need-returns-3
-returns-3 c =
-    let r = c .before .before .before .before .before .before .before in
-    let s = r .before .before .before in
-    brings (s .args .input .now) (s .args .kept) (Bytes (c .before .count .result)) (r .read .last .1 .0) (omega (arith, c .before .count .ensures .0 .0, length-drop (s .args .kept) (s .args .input .now))) (r .read .kept .1 .0)
+    let input = s .args .input .now in
+    let bs = putMid (s .args .kept) (length input - s .args .kept) input (r .read .last .1 .0) in
+    let l = same-len-mid (s .args .kept) (length input - s .args .kept) input (r .read .last .1 .0) (r .read .kept .1 .0) in
+    brings input (s .args .kept) (c .brought .result) (r .read .last .1 .0) (omega (arith, s .pre, l, brought-most (toZ w64 (ofZ w64 (r .read .result))) bs (s .args .kept) (c .brought .ensures))) (r .read .kept .1 .0)
 
 pub read-behind-spec : {M : Type 1} → statement M
 read-behind-spec =
@@ -67,13 +56,9 @@ read-behind-spec =
     part-read-start
     part-read-end
     read-requires
+    sub-brought
+    part-brought-start
+    part-brought-end
+    brought-requires
     same-length
-    returns
-    sub-count
-    part-count-start
-    part-count-end
-    count-requires
-    same-length-2
-    returns-2
-    same-length-3
-    returns-3)
+    returns)

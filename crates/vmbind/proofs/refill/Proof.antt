@@ -1,6 +1,5 @@
 -- `vmbind::refill` meets its contract.
 -- Assumes nothing.
-use mathlib.Core.Bool.{true, false}
 use native.Mathlib.Omega.{arith}
 use Rattle.vmbind.specs.declared.Got.the-variants.{Bytes, Nothing, Failure}
 use Rattle.vmbind.proofs.Refills.{refills}
@@ -41,7 +40,7 @@ returns c =
     let k = b .before .before .before .before in
     let s = k .before .before .before in
     let a = s .args in
-    refills (a .progress) (a .input .now) (a .from) (a .to) false false (Bytes (c .before .n .given .0 .0)) (omega arith) (s .pre .0) (s .pre .2) (k .keep-unread .ensures .0) (k .keep-unread .ensures .1) (rw (c .before .n .given .1) at (b .read-behind .ensures))
+    refills (a .progress) (a .input .now) (a .from) (a .to) (Bytes (c .before .n .given .0 .0)) (omega arith) (s .pre .0) (s .pre .2) (k .keep-unread .ensures .0) (k .keep-unread .ensures .1) (rw (c .before .n .given .1) at (b .read-behind .ensures))
 
 same-length-2 : tie.Need-same-length-2
 same-length-2 c = search needs
@@ -52,7 +51,7 @@ returns-2 c =
     let k = b .before .before .before .before in
     let s = k .before .before .before in
     let a = s .args in
-    refills (a .progress) (a .input .now) (a .from) (a .to) true false Nothing (omega arith) (s .pre .0) (s .pre .2) (k .keep-unread .ensures .0) (k .keep-unread .ensures .1) (rw (c .enum-told .given .1) at (b .read-behind .ensures))
+    refills (a .progress) (a .input .now) (a .from) (a .to) Nothing (omega arith) (s .pre .0) (s .pre .2) (k .keep-unread .ensures .0) (k .keep-unread .ensures .1) (rw (c .enum-told .given .1) at (b .read-behind .ensures))
 
 same-length-3 : tie.Need-same-length-3
 same-length-3 c = search needs
@@ -63,7 +62,7 @@ returns-3 c =
     let k = b .before .before .before .before in
     let s = k .before .before .before in
     let a = s .args in
-    refills (a .progress) (a .input .now) (a .from) (a .to) false true Failure (omega arith) (s .pre .0) (s .pre .2) (k .keep-unread .ensures .0) (k .keep-unread .ensures .1) (rw (c .before .before .enum-told2 .given .1) at (b .read-behind .ensures))
+    refills (a .progress) (a .input .now) (a .from) (a .to) Failure (omega arith) (s .pre .0) (s .pre .2) (k .keep-unread .ensures .0) (k .keep-unread .ensures .1) (rw (c .before .before .enum-told2 .given .1) at (b .read-behind .ensures))
 
 pub refill-spec : {M : Type 1} → statement M
 refill-spec =
