@@ -5,4 +5,4 @@ pub mod Coming
 pub mod Printing
 pub mod Turning
 pub mod Advancing
-pub mod Session
+pub mod Streaming

@@ -1,3 +1,3 @@
 pub mod Steps
 pub mod Progress
-pub mod Session
+pub mod Streaming

@@ -1,4 +1,4 @@
--- What holds after the bytes at hand were printed, and how a session goes on.
+-- What holds after the bytes at hand were printed, and how a stream goes on.
 -- Assumes nothing.
 use mathlib.Core.Path.{_≡_, sym, ap, subst, _∙_}
 use mathlib.Core.Logic.{_⊎_, inl, inr}
@@ -13,7 +13,7 @@ use Rattle.model.specs.declared.ScriptRecord.the-variants.{Cut, End}
 use Rattle.script.specs.declared.Progress.{Progress}
 use Rattle.script.specs.declared.Turned.{Turned}
 use Rattle.script.specs.Progress.{Idle, Advances}
-use Rattle.script.specs.Session.{Session, came, ended, printed}
+use Rattle.script.specs.Streaming.{Stream, came, ended, printed}
 use Rattle.words.proofs.Stored.{drop-take}
 use Rattle.words.proofs.Moved.{length-part}
 use Rattle.script.proofs.Reading.{short-length}
@@ -26,7 +26,7 @@ pub carries-same : (r : Run) (ws os input : List ℕ) (over : Bool) → Held r o
     → Carries r ws os input (record { progress = r .progress; from = r .from; to = r .to; last = r .last; over = over }) ws os input
 carries-same r ws os input over h = record {
   held = record { order = h .order; inside = h .inside; there = h .there };
-  session = λ {bs} {text} s. ([], [], rw (append-nil bs, append-nil text) s);
+  stream = λ {bs} {text} s. ([], [], rw (append-nil bs, append-nil text) s);
 }
 
 module _ (r : Run) {os : List ℕ} (input : List ℕ) (h : Held r os (length input)) where
@@ -48,7 +48,7 @@ module _ (r : Run) {os : List ℕ} (input : List ℕ) (h : Held r os (length inp
     pub carries-on : (over : Bool) → Carries r ws os input (record { progress = t .progress; from = r .from + t .taken; to = r .to; last = r .last; over = over }) ws' os' input
     carries-on over = record {
       held = record { order = taken-within; inside = h .inside; there = a .goes .held };
-      session = λ {bs} {text} s. ([], a .goes .text, rw (append-nil bs, ← rest) (printed s (a .goes)));
+      stream = λ {bs} {text} s. ([], a .goes .text, rw (append-nil bs, ← rest) (printed s (a .goes)));
     }
 
     -- where there was room for more, and the program has not stopped, it waits for more bytes
@@ -78,19 +78,19 @@ module _ (r : Run) {os : List ℕ} (input : List ℕ) (h : Held r os (length inp
     unfolding Waits
     carries-refilled room going {q} {input'} f = record {
       held = record { order = f .order; inside = f .inside; there = rw (f .same) (a .goes .held) };
-      session = λ {bs} {text} s. (f .more, a .goes .text, rw (f .same, f .behind, ← rest) (ends (q .last) (came (subst (λ (l : Bool). Session bs l (drop (t .taken) (unread r input)) (text ++ a .goes .text) (t .progress) ws' os') (waiting room going .0) (printed s (a .goes))) (f .more))));
+      stream = λ {bs} {text} s. (f .more, a .goes .text, rw (f .same, f .behind, ← rest) (ends (q .last) (came (subst (λ (l : Bool). Stream bs l (drop (t .taken) (unread r input)) (text ++ a .goes .text) (t .progress) ws' os') (waiting room going .0) (printed s (a .goes))) (f .more))));
     }
       where
-        ends : {bs unread text : List ℕ} {p : Progress} {ws os : List ℕ} (last : Bool) → Session bs false unread text p ws os → Session bs last unread text p ws os
+        ends : {bs unread text : List ℕ} {p : Progress} {ws os : List ℕ} (last : Bool) → Stream bs false unread text p ws os → Stream bs last unread text p ws os
         ends true s = ended s
         ends false s = s
 
--- between two rounds: some bytes have come, some text was printed, and the session is there
+-- between two rounds: some bytes have come, some text was printed, and the stream is there
 pub record Going (r : Run) (ws os input : List ℕ) : Type 0 where
   pub bytes : List ℕ
   pub text : List ℕ
   pub held : Held r os (length input)
-  pub session : Session bytes (r .last) (unread r input) text (r .progress) ws os
+  pub stream : Stream bytes (r .last) (unread r input) text (r .progress) ws os
 
 pub goes-on : {r q : Run} {ws os input ws' os' input' : List ℕ} → Going r ws os input → Carries r ws os input q ws' os' input' → Going q ws' os' input'
-goes-on g c = let s = c .session (g .session) in record { bytes = g .bytes ++ s .0; text = g .text ++ s .1; held = c .held; session = s .2 }
+goes-on g c = let s = c .stream (g .stream) in record { bytes = g .bytes ++ s .0; text = g .text ++ s .1; held = c .held; stream = s .2 }

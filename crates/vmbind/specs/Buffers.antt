@@ -1,4 +1,4 @@
--- The unread bytes in the input buffer, and what reading and printing leave of a session.
+-- The unread bytes in the input buffer, and what reading and printing leave of a stream.
 -- Assumes nothing.
 use mathlib.Core.Path.{_≡_}
 use mathlib.Core.Bool.{Bool, true, false}
@@ -7,7 +7,7 @@ use Prim.Native.Nat.{ℕ, zero, suc, _+_, _-_, _*_, _≤_, min}
 use lib.IntN.{ℤ, pos, negsuc}
 use lib.ListN.{length, take, drop}
 use Rattle.script.specs.declared.Progress.{Progress}
-use Rattle.script.specs.Session.{Session}
+use Rattle.script.specs.Streaming.{Stream}
 use Rattle.vmbind.specs.declared.Run.{Run}
 use Rattle.vmbind.specs.declared.Got.{Got}
 use Rattle.vmbind.specs.declared.Got.the-variants.{Bytes, Nothing, Failure}
@@ -65,8 +65,8 @@ pub record Held (r : Run) (os : List ℕ) (n : ℕ) : Type 0 where
   pub inside : r .to ≤ n
   pub there : 14 * (r .progress .next + r .progress .left) ≤ length os
 
--- a round goes on with a session: some bytes more have come, and some text more was printed
+-- a round goes on with a stream: some bytes more have come, and some text more was printed
 pub record Carries (run : Run) (ws os input : List ℕ) (r : Run) (ws' os' input' : List ℕ) : Type 0 where
   pub held : Held r os' (length input')
-  pub session : {bs text : List ℕ} → Session bs (run .last) (unread run input) text (run .progress) ws os
-      → (more : List ℕ) × (printed : List ℕ) × Session (bs ++ more) (r .last) (unread r input') (text ++ printed) (r .progress) ws' os'
+  pub stream : {bs text : List ℕ} → Stream bs (run .last) (unread run input) text (run .progress) ws os
+      → (more : List ℕ) × (printed : List ℕ) × Stream (bs ++ more) (r .last) (unread r input') (text ++ printed) (r .progress) ws' os'

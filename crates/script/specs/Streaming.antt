@@ -11,20 +11,20 @@ use Rattle.script.specs.declared.Turned.{Turned}
 use Rattle.script.specs.Progress.{startProgress, toCome, Goes}
 
 -- the bytes that have come, whether they are the last, those still unread, the text printed, and what the program holds: progress, table words, operation words
-pub data Session : List ℕ → Bool → List ℕ → List ℕ → Progress → List ℕ → List ℕ → Type 0 where
-  begun : Session [] false [] [] startProgress (start .table .words) (start .operations)
-  came : {bs unread text : List ℕ} {p : Progress} {ws os : List ℕ} → Session bs false unread text p ws os → (more : List ℕ)
-      → Session (bs ++ more) false (unread ++ more) text p ws os
-  ended : {bs unread text : List ℕ} {p : Progress} {ws os : List ℕ} → Session bs false unread text p ws os → Session bs true unread text p ws os
+pub data Stream : List ℕ → Bool → List ℕ → List ℕ → Progress → List ℕ → List ℕ → Type 0 where
+  begun : Stream [] false [] [] startProgress (start .table .words) (start .operations)
+  came : {bs unread text : List ℕ} {p : Progress} {ws os : List ℕ} → Stream bs false unread text p ws os → (more : List ℕ)
+      → Stream (bs ++ more) false (unread ++ more) text p ws os
+  ended : {bs unread text : List ℕ} {p : Progress} {ws os : List ℕ} → Stream bs false unread text p ws os → Stream bs true unread text p ws os
   -- a call of `advance`, which leaves what it promises
   printed : {bs : List ℕ} {last : Bool} {unread text : List ℕ} {p : Progress} {ws os out : List ℕ} {at : ℕ} {t : Turned} {ws' os' out' : List ℕ}
-      → Session bs last unread text p ws os → (g : Goes p ws os unread last out at t ws' os' out')
-      → Session bs last (drop (t .taken) unread) (text ++ g .text) (t .progress) ws' os'
+      → Stream bs last unread text p ws os → (g : Goes p ws os unread last out at t ws' os' out')
+      → Stream bs last (drop (t .taken) unread) (text ++ g .text) (t .progress) ws' os'
 
 pub record Prints : Type 0 where
   -- what has been printed and what is to come make up the script's output, whatever bytes may still come
-  pub whole : {bs : List ℕ} {last : Bool} {unread text : List ℕ} {p : Progress} {ws os : List ℕ} → Session bs last unread text p ws os
+  pub whole : {bs : List ℕ} {last : Bool} {unread text : List ℕ} {p : Progress} {ws os : List ℕ} → Stream bs last unread text p ws os
       → (more : List ℕ) → (last ≡ true → more ≡ []) → text ++ toCome p ws os (unread ++ more) ≡ output (bs ++ more)
   -- where the program has stopped and no operation is left, all of it has been printed
-  pub over : {bs : List ℕ} {last : Bool} {unread text : List ℕ} {p : Progress} {ws os : List ℕ} → Session bs last unread text p ws os
+  pub over : {bs : List ℕ} {last : Bool} {unread text : List ℕ} {p : Progress} {ws os : List ℕ} → Stream bs last unread text p ws os
       → p .left ≡ 0 → p .stopped ≡ true → (more : List ℕ) → (last ≡ true → more ≡ []) → text ≡ output (bs ++ more)

@@ -8,9 +8,9 @@ use Rattle.model.specs.Script.{output}
 use Rattle.script.specs.declared.Progress.{Progress}
 use Rattle.script.specs.Progress.{pending, toCome}
 use Rattle.script.proofs.Coming.{never}
-use Rattle.script.specs.Session.{Session, begun, came, ended, printed, Prints}
+use Rattle.script.specs.Streaming.{Stream, begun, came, ended, printed, Prints}
 
-so-far : {bs : List ℕ} {last : Bool} {unread text : List ℕ} {p : Progress} {ws os : List ℕ} → Session bs last unread text p ws os
+so-far : {bs : List ℕ} {last : Bool} {unread text : List ℕ} {p : Progress} {ws os : List ℕ} → Stream bs last unread text p ws os
     → (more : List ℕ) → (last ≡ true → more ≡ []) → text ++ toCome p ws os (unread ++ more) ≡ output (bs ++ more)
 unfolding toCome pending output
 so-far begun more ends = refl
