@@ -57,7 +57,7 @@ struct test_case {
 
 #define GRANTED(operations, count) {0, 0, operations, count}
 #define REFUSED(number, count) {number, 0, 0, count}
-#define BAD_PLACE(place, count) {WAYLLUQEN_BAD_MAPPING, place, 0, count}
+#define BAD_PLACE(place, count) {WAYLLUQEN_REFUSED_BAD_MAPPING, place, 0, count}
 
 #define NONE {0, 0, 0, 0}
 #define MAPS(new) {WAYLLUQEN_KIND_MAP, 0, new, NONE, NONE}

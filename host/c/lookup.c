@@ -27,7 +27,7 @@ struct test_case {
 #define SHOWS(object, offset) {0, 0, 1, object, offset}
 #define NOTHING {0, 0, 0, 0, 0}
 #define REFUSED(number) {number, 0, 0, 0, 0}
-#define BAD_PLACE(place) {WAYLLUQEN_BAD_MAPPING, place, 0, 0, 0}
+#define BAD_PLACE(place) {WAYLLUQEN_REFUSED_BAD_MAPPING, place, 0, 0, 0}
 
 /* A table that is full of n mappings. */
 #define FULL(n) n, (n) * MAPPING_WORDS

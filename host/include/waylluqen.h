@@ -1,4 +1,4 @@
-/* Waylluqen: keeps the mappings of a GPU address space: maps, unmaps and looks addresses up. */
+/* SPDX-License-Identifier: MIT */
 #ifndef WAYLLUQEN_H
 #define WAYLLUQEN_H
 
@@ -9,218 +9,379 @@
 extern "C" {
 #endif
 
-/* The numbers of refusals; 0 is none. */
+/**
+ * DOC: Overview
+ *
+ * Waylluqen keeps one GPU address space as a sorted table of mappings, in memory that the caller
+ * lends. waylluqen_bind() and waylluqen_bind_record() map or unmap a range: they cut what is
+ * mapped there out of the table, and write the list of operations that a driver carries out on
+ * its page tables. waylluqen_lookup() tells what an address shows. waylluqen_check_request()
+ * tells beforehand what is wrong with a request. All that is kept between two calls is the
+ * caller's: a space, the table's words and their count.
+ *
+ * Any table, any request and any numbers get an answer, and it is proved to be the one that is
+ * written here: &waylluqen_answer.refusal is %WAYLLUQEN_OK, or the first rule that is broken,
+ * and then no lent word has changed.
+ *
+ * Sums are exact, none wraps. Ranges are half-open: two that only touch share no byte.
+ */
+
+/**
+ * DOC: What the caller ensures
+ *
+ * This is all that no call can check for itself. Everything else may be as it likes.
+ *
+ * - A pointer is valid for as many words or bytes as its length says, for reading, and where it
+ *   is not const for writing. It is not NULL, also where the length is 0.
+ * - A pointer to words is aligned as a uint64_t is. A record may stand at any byte.
+ * - What is lent for writing overlaps nothing else that is lent in the same call: the table, the
+ *   operation words and the record are three places.
+ * - Nobody else writes to lent memory during a call, or reads what the call writes: no other
+ *   thread, no interrupt, no device. Look-ups in one table may run beside each other, but not
+ *   beside a bind on it. There are no locks in here.
+ * - The processor is an x86-64 with the System V calling convention, SSE2 may be used and the
+ *   128 bytes below the stack pointer are left alone by interrupts. A call takes less than a
+ *   kilobyte of stack. At link time there is a memset().
+ *
+ * No call keeps a pointer, allocates, blocks, or touches memory that is not lent to it.
+ */
+
+/**
+ * DOC: Limits
+ *
+ * A page is %WAYLLUQEN_PAGE_SIZE bytes. Neither a space nor a mapping's part of its object goes
+ * above %WAYLLUQEN_LIMIT. An object is a number from 1 to %WAYLLUQEN_MAX_OBJECT. A table has
+ * room for 1 to %WAYLLUQEN_MAX_MAPPINGS mappings.
+ */
+enum {
+    WAYLLUQEN_PAGE_SIZE = 4096,
+    WAYLLUQEN_MAX_MAPPINGS = 512
+};
+#define WAYLLUQEN_LIMIT ((uint64_t)1 << 48)
+#define WAYLLUQEN_MAX_OBJECT ((uint64_t)0xffffffff)
+
+/**
+ * enum waylluqen_refusal - why a call is refused
+ * @WAYLLUQEN_OK: it is not: a request is granted, a look-up is answered
+ * @WAYLLUQEN_REFUSED_BAD_SPACE: the space breaks one of its rules, see &waylluqen_space
+ * @WAYLLUQEN_REFUSED_BAD_TABLE_LENGTH: the table's length is 0, not a multiple of
+ *     %WAYLLUQEN_MAPPING_WORDS, or has room for more than %WAYLLUQEN_MAX_MAPPINGS mappings
+ * @WAYLLUQEN_REFUSED_SHORT_OPERATIONS: the operation words are fewer than
+ *     WAYLLUQEN_OPERATION_LIST_WORDS() of the table's capacity
+ * @WAYLLUQEN_REFUSED_BAD_COUNT: the count is above the table's capacity, its length divided by
+ *     %WAYLLUQEN_MAPPING_WORDS
+ * @WAYLLUQEN_REFUSED_BAD_MAPPING: a mapping in the table breaks one of its rules, see &enum
+ *     waylluqen_mapping_word, or overlaps or precedes the one before it; the lowest such place,
+ *     from 0, comes with it
+ * @WAYLLUQEN_REFUSED_UNALIGNED: the request's address, size or offset is not a multiple of a
+ *     page, or its size is 0
+ * @WAYLLUQEN_REFUSED_OUTSIDE_SPACE: the request's range is not inside the space
+ * @WAYLLUQEN_REFUSED_RESERVED: the request's range shares a byte with the reservation
+ * @WAYLLUQEN_REFUSED_BAD_OBJECT: a map of object 0 or above %WAYLLUQEN_MAX_OBJECT; an unmap with
+ *     an object or an offset other than 0
+ * @WAYLLUQEN_REFUSED_BAD_OFFSET: a map whose offset plus size is above %WAYLLUQEN_LIMIT
+ * @WAYLLUQEN_REFUSED_NO_ROOM: there would be more mappings afterwards than the table has room
+ *     for; what the request frees counts as free
+ * @WAYLLUQEN_REFUSED_BAD_RECORD_LENGTH: the record is not %WAYLLUQEN_RECORD_BYTES bytes long
+ * @WAYLLUQEN_REFUSED_BAD_OP: op is neither %WAYLLUQEN_OP_MAP nor %WAYLLUQEN_OP_UNMAP
+ * @WAYLLUQEN_REFUSED_BAD_FLAGS: the record's flags or pad is not 0
+ *
+ * Where several apply, a call answers with the first in this order: 12, 13, 14, then 1 to 11. It
+ * leaves out those that it has no use for.
+ */
 enum waylluqen_refusal {
     WAYLLUQEN_OK = 0,
-    WAYLLUQEN_BAD_SPACE = 1,
-    WAYLLUQEN_BAD_TABLE_LENGTH = 2,
-    WAYLLUQEN_SHORT_OPERATIONS = 3,
-    WAYLLUQEN_BAD_COUNT = 4,
-    WAYLLUQEN_BAD_MAPPING = 5,
-    WAYLLUQEN_UNALIGNED = 6,
-    WAYLLUQEN_OUTSIDE_SPACE = 7,
-    WAYLLUQEN_RESERVED = 8,
-    WAYLLUQEN_BAD_OBJECT = 9,
-    WAYLLUQEN_BAD_OFFSET = 10,
-    WAYLLUQEN_NO_ROOM = 11,
-    WAYLLUQEN_BAD_RECORD_LENGTH = 12,
-    WAYLLUQEN_BAD_OP = 13,
-    WAYLLUQEN_BAD_FLAGS = 14
+    WAYLLUQEN_REFUSED_BAD_SPACE = 1,
+    WAYLLUQEN_REFUSED_BAD_TABLE_LENGTH = 2,
+    WAYLLUQEN_REFUSED_SHORT_OPERATIONS = 3,
+    WAYLLUQEN_REFUSED_BAD_COUNT = 4,
+    WAYLLUQEN_REFUSED_BAD_MAPPING = 5,
+    WAYLLUQEN_REFUSED_UNALIGNED = 6,
+    WAYLLUQEN_REFUSED_OUTSIDE_SPACE = 7,
+    WAYLLUQEN_REFUSED_RESERVED = 8,
+    WAYLLUQEN_REFUSED_BAD_OBJECT = 9,
+    WAYLLUQEN_REFUSED_BAD_OFFSET = 10,
+    WAYLLUQEN_REFUSED_NO_ROOM = 11,
+    WAYLLUQEN_REFUSED_BAD_RECORD_LENGTH = 12,
+    WAYLLUQEN_REFUSED_BAD_OP = 13,
+    WAYLLUQEN_REFUSED_BAD_FLAGS = 14
 };
 
-/* What a request asks for. */
+/**
+ * enum waylluqen_op - what a request asks for
+ * @WAYLLUQEN_OP_MAP: the range is to show an object
+ * @WAYLLUQEN_OP_UNMAP: the range is to show nothing
+ */
 enum waylluqen_op {
     WAYLLUQEN_OP_MAP = 0,
     WAYLLUQEN_OP_UNMAP = 1
 };
 
-/* What an operation tells a driver to do. */
+/**
+ * enum waylluqen_mapping_word - the words of a mapping, in a table and in an operation
+ * @WAYLLUQEN_MAPPING_ADDRESS: its first address
+ * @WAYLLUQEN_MAPPING_SIZE: its size in bytes
+ * @WAYLLUQEN_MAPPING_OBJECT: what it shows
+ * @WAYLLUQEN_MAPPING_OFFSET: the byte of the object that its first address shows
+ * @WAYLLUQEN_MAPPING_WORDS: how many words it has
+ *
+ * Its rules: address, size and offset are multiples of a page; the size is not 0; the object is
+ * 1 to %WAYLLUQEN_MAX_OBJECT; offset + size is at most %WAYLLUQEN_LIMIT; [address, address +
+ * size) is inside the space and shares no byte with the reservation.
+ */
+enum waylluqen_mapping_word {
+    WAYLLUQEN_MAPPING_ADDRESS = 0,
+    WAYLLUQEN_MAPPING_SIZE = 1,
+    WAYLLUQEN_MAPPING_OBJECT = 2,
+    WAYLLUQEN_MAPPING_OFFSET = 3,
+    WAYLLUQEN_MAPPING_WORDS = 4
+};
+
+/**
+ * WAYLLUQEN_TABLE_WORDS() - how many words a table has
+ * @capacity: how many mappings it is to have room for, 1 to %WAYLLUQEN_MAX_MAPPINGS
+ *
+ * The table's mappings stand at its front in ascending order, each ending at or before the next
+ * one's address. Their count is kept beside the table; the words behind them are not looked at.
+ * An empty table is zeros with count 0.
+ */
+#define WAYLLUQEN_TABLE_WORDS(capacity) ((size_t)(capacity) * WAYLLUQEN_MAPPING_WORDS)
+
+/**
+ * enum waylluqen_kind - what an operation tells a driver to do
+ * @WAYLLUQEN_KIND_MAP: map the new mapping
+ * @WAYLLUQEN_KIND_REMAP: unmap the old mapping but for its rests, which show what they showed
+ * @WAYLLUQEN_KIND_UNMAP: unmap the old mapping
+ */
 enum waylluqen_kind {
     WAYLLUQEN_KIND_MAP = 0,
     WAYLLUQEN_KIND_REMAP = 1,
     WAYLLUQEN_KIND_UNMAP = 2
 };
 
-/* How many words a mapping has in a table, and an operation in a list of them. */
-enum waylluqen_words {
-    WAYLLUQEN_MAPPING_WORDS = 4,
+/**
+ * enum waylluqen_operation_word - the words of an operation
+ * @WAYLLUQEN_OPERATION_KIND: one of &enum waylluqen_kind
+ * @WAYLLUQEN_OPERATION_KEEP: 1 if the request is a map and the old mapping has its address,
+ *     object and offset, so that a driver may keep page entries that both have; else, and for a
+ *     map operation, 0
+ * @WAYLLUQEN_OPERATION_MAPPING: where the old mapping starts; for a map operation the new one
+ * @WAYLLUQEN_OPERATION_LOWER: where the lower rest starts: what a remap leaves below the range
+ * @WAYLLUQEN_OPERATION_UPPER: where the upper rest starts: what a remap leaves above the range
+ * @WAYLLUQEN_OPERATION_WORDS: how many words it has
+ *
+ * A rest is a mapping. The lower one has the old address and offset; the upper one starts at the
+ * range's end, and its offset is as much higher as its address is. An absent rest is four zeros,
+ * so that its size is 0; a map and an unmap have none.
+ */
+enum waylluqen_operation_word {
+    WAYLLUQEN_OPERATION_KIND = 0,
+    WAYLLUQEN_OPERATION_KEEP = 1,
+    WAYLLUQEN_OPERATION_MAPPING = 2,
+    WAYLLUQEN_OPERATION_LOWER = 6,
+    WAYLLUQEN_OPERATION_UPPER = 10,
     WAYLLUQEN_OPERATION_WORDS = 14
 };
 
-/*
- * The space [start, start + size). Its part [reserved_start, reserved_start + reserved_size) is
- * reserved; reserved_size 0 with reserved_start 0 means that nothing is.
+/**
+ * WAYLLUQEN_OPERATION_LIST_WORDS() - how many operation words a call is lent at least
+ * @capacity: how many mappings the table has room for
  *
- * Its rules: all four are multiples of a page, which is 4096 bytes; size is not 0; the space ends
- * at or below 2^48; the reservation is inside the space; reserved_start is 0 where reserved_size
- * is. Any numbers may be given: a space that breaks a rule is refused.
- *
- * Here and below sums are exact, none wraps; and ranges that only touch share no byte.
+ * No request on such a table writes more.
  */
-typedef struct {
+#define WAYLLUQEN_OPERATION_LIST_WORDS(capacity) \
+    (((size_t)(capacity) + 1) * WAYLLUQEN_OPERATION_WORDS)
+
+/**
+ * enum waylluqen_record_byte - the bytes of a request record, each field little-endian
+ * @WAYLLUQEN_RECORD_OP: 4 bytes, one of &enum waylluqen_op
+ * @WAYLLUQEN_RECORD_FLAGS: 4 bytes, 0
+ * @WAYLLUQEN_RECORD_HANDLE: 4 bytes, the object; 0 for an unmap
+ * @WAYLLUQEN_RECORD_PAD: 4 bytes, 0
+ * @WAYLLUQEN_RECORD_ADDR: 8 bytes, the first address of the range
+ * @WAYLLUQEN_RECORD_BO_OFFSET: 8 bytes, the offset in the object; 0 for an unmap
+ * @WAYLLUQEN_RECORD_RANGE: 8 bytes, the size of the range in bytes
+ * @WAYLLUQEN_RECORD_BYTES: how many bytes it has
+ *
+ * It is laid out as struct drm_nouveau_vm_bind_op is.
+ */
+enum waylluqen_record_byte {
+    WAYLLUQEN_RECORD_OP = 0,
+    WAYLLUQEN_RECORD_FLAGS = 4,
+    WAYLLUQEN_RECORD_HANDLE = 8,
+    WAYLLUQEN_RECORD_PAD = 12,
+    WAYLLUQEN_RECORD_ADDR = 16,
+    WAYLLUQEN_RECORD_BO_OFFSET = 24,
+    WAYLLUQEN_RECORD_RANGE = 32,
+    WAYLLUQEN_RECORD_BYTES = 40
+};
+
+/**
+ * struct waylluqen_space - an address space, and the part of it that nobody may map
+ * @start: its first address
+ * @size: its size in bytes
+ * @reserved_start: the first reserved address; 0 where nothing is reserved
+ * @reserved_size: how many bytes are reserved; 0 where nothing is
+ *
+ * Its rules: all four are multiples of a page; the size is not 0; start + size is at most
+ * %WAYLLUQEN_LIMIT; the reservation is inside the space, and may be all of it; reserved_start is
+ * 0 where reserved_size is.
+ */
+typedef struct waylluqen_space {
     uint64_t start;
     uint64_t size;
     uint64_t reserved_start;
     uint64_t reserved_size;
 } waylluqen_space;
 
-/*
- * Checks one request to map or unmap a range, as it came from the caller of a driver.
- *
- * The record is 40 bytes, each field little-endian:
- *   bytes  0..4   op         0 map, 1 unmap
- *   bytes  4..8   flags      0
- *   bytes  8..12  handle     the object; 0 for an unmap
- *   bytes 12..16  pad        0
- *   bytes 16..24  addr       first address of the range
- *   bytes 24..32  bo_offset  offset in the object; 0 for an unmap
- *   bytes 32..40  range      size of the range in bytes
- *
- * The four numbers are those of a waylluqen_space.
- *
- * record: record_bytes readable bytes, of any alignment. Not NULL, also where record_bytes is 0.
- * The numbers may have any value. The function writes nowhere.
- *
- * Answers the first of these that is true, in this order, or WAYLLUQEN_OK where none is:
- *   WAYLLUQEN_BAD_RECORD_LENGTH  record_bytes is not 40
- *   WAYLLUQEN_BAD_OP             op is neither 0 nor 1
- *   WAYLLUQEN_BAD_FLAGS          flags or pad is not 0
- *   WAYLLUQEN_BAD_SPACE          the space breaks one of its rules
- *   WAYLLUQEN_UNALIGNED          addr, range or bo_offset is no multiple of a page, or range is 0
- *   WAYLLUQEN_OUTSIDE_SPACE      [addr, addr + range) is not inside the space
- *   WAYLLUQEN_RESERVED           [addr, addr + range) shares a byte with the reservation
- *   WAYLLUQEN_BAD_OBJECT         a map with handle 0; an unmap with handle or bo_offset not 0
- *   WAYLLUQEN_BAD_OFFSET         a map with bo_offset + range above 2^48
+/**
+ * struct waylluqen_request - a request by numbers
+ * @op: one of &enum waylluqen_op
+ * @address: the first address of the range
+ * @size: the size of the range in bytes
+ * @object: what is to be mapped; 0 for an unmap
+ * @offset: the byte of the object that the first address is to show; 0 for an unmap
  */
-uint32_t waylluqen_check_request(const uint8_t *record, size_t record_bytes, uint64_t start,
-                                 uint64_t size, uint64_t reserved_start, uint64_t reserved_size);
-
-/* The answer to a look-up. What does not apply is 0. */
-typedef struct {
-    uint64_t refusal; /* WAYLLUQEN_OK, or why the look-up is not answered */
-    uint64_t place;   /* WAYLLUQEN_BAD_MAPPING: the lowest place, from 0, of a mapping at fault */
-    uint64_t mapped;  /* 1 if the address is in a mapping */
-    uint64_t object;  /* what is mapped there */
-    uint64_t offset;  /* which byte of the object it is */
-} waylluqen_translation;
-
-/*
- * Looks up what the byte at an address shows.
- *
- * The table holds the mappings of the space in ascending order, four words each:
- *   word 0  address  first address of the mapping
- *   word 1  size     size of the mapping in bytes
- *   word 2  object   what is mapped
- *   word 3  offset   offset in the object of the mapping's first byte
- * There are count mappings; the words behind them are not looked at.
- *
- * The rules of a mapping: address, size and offset are multiples of a page; size is not 0; object
- * is 1 to 2^32 - 1; offset + size is at most 2^48; [address, address + size) is inside the space
- * and shares no byte with the reservation. Of two that overlap or are in the wrong order, the one
- * behind is at fault.
- *
- * table: table_words words that can be read, aligned as a uint64_t is. Not NULL, also where
- * table_words is 0. The words and the numbers may have any value. The function writes nowhere.
- *
- * Refuses with the first of these that is true, in this order:
- *   WAYLLUQEN_BAD_SPACE          the space breaks one of its rules
- *   WAYLLUQEN_BAD_TABLE_LENGTH   table_words is 0, no multiple of 4, or above 2048
- *   WAYLLUQEN_BAD_COUNT          count is above table_words / 4
- *   WAYLLUQEN_BAD_MAPPING        a mapping breaks one of its rules, or overlaps or precedes the
- *                                one before it
- * Else it answers: an address inside a mapping shows the object at offset + (address - the
- * mapping's address); any other shows nothing, also one outside the space.
- */
-waylluqen_translation waylluqen_lookup(waylluqen_space space, const uint64_t *table,
-                                       size_t table_words, uint64_t count, uint64_t address);
-
-/*
- * A request by numbers: to map [address, address + size) to an object from its offset on, or to
- * unmap it. Any numbers may be given: a request that breaks a rule is refused.
- */
-typedef struct {
-    uint64_t op;      /* WAYLLUQEN_OP_MAP or WAYLLUQEN_OP_UNMAP */
-    uint64_t address; /* first address of the range */
-    uint64_t size;    /* size of the range in bytes */
-    uint64_t object;  /* what is to be mapped; 0 for an unmap */
-    uint64_t offset;  /* offset in the object of the range's first byte; 0 for an unmap */
+typedef struct waylluqen_request {
+    uint64_t op;
+    uint64_t address;
+    uint64_t size;
+    uint64_t object;
+    uint64_t offset;
 } waylluqen_request;
 
-/* The answer to a request. */
-typedef struct {
-    uint64_t refusal;    /* WAYLLUQEN_OK where it is granted, or why it is not */
-    uint64_t place;      /* WAYLLUQEN_BAD_MAPPING: the lowest place of a mapping at fault; else 0 */
-    uint64_t operations; /* how many operations were written; 0 on a refusal */
-    uint64_t count;      /* how many mappings the table has now; on a refusal as before */
+/**
+ * struct waylluqen_answer - the answer to a request
+ * @refusal: %WAYLLUQEN_OK where it is granted, or why it is not
+ * @place: for %WAYLLUQEN_REFUSED_BAD_MAPPING the lowest place, from 0, of a mapping at fault;
+ *     else 0
+ * @operations: how many operations were written; 0 on a refusal
+ * @count: how many mappings the table has now; on a refusal the count that came in
+ */
+typedef struct waylluqen_answer {
+    uint64_t refusal;
+    uint64_t place;
+    uint64_t operations;
+    uint64_t count;
 } waylluqen_answer;
 
-/*
- * Maps or unmaps a range: cuts what is mapped there out of the table, puts the new mapping of a
- * map in, and writes down what a driver has to do for it.
+/**
+ * struct waylluqen_translation - the answer to a look-up; what does not apply is 0
+ * @refusal: %WAYLLUQEN_OK where it is answered, or why it is not
+ * @place: for %WAYLLUQEN_REFUSED_BAD_MAPPING the lowest place, from 0, of a mapping at fault
+ * @mapped: 1 if the address is in a mapping
+ * @object: what is mapped there
+ * @offset: which byte of the object the address shows
+ */
+typedef struct waylluqen_translation {
+    uint64_t refusal;
+    uint64_t place;
+    uint64_t mapped;
+    uint64_t object;
+    uint64_t offset;
+} waylluqen_translation;
+
+/**
+ * waylluqen_bind() - map or unmap a range, by numbers
+ * @space: the space
+ * @table: its table
+ * @table_words: how many words the table has, WAYLLUQEN_TABLE_WORDS() of its capacity
+ * @count: how many mappings the table has
+ * @operations: where the operations are written to
+ * @operation_words: how many words that are, WAYLLUQEN_OPERATION_LIST_WORDS() of the table's
+ *     capacity or more
+ * @request: what is asked for
  *
- * The table is as waylluqen_lookup has it, and count is the number of its mappings.
+ * A mapping in the table is hit if it shares a byte with the range. One that is wholly inside
+ * the range goes: it gets an unmap operation. Any other that is hit keeps what is outside the
+ * range: it gets one remap operation, with a lower rest, an upper rest or both. They stand in
+ * ascending order of the mappings' addresses. A map request has one map operation at the very
+ * end, also where nothing changes. Mappings are never joined.
  *
- * A mapping is hit if it shares a byte with the range. One that is wholly inside goes: it gets an
- * unmap. Any other keeps what is outside the range: it gets one remap with its lower rest, which
- * has the old address and offset, its upper rest, which starts at the range's end and whose offset
- * is as much higher as its address is, or both. These stand in ascending order of address. A map
- * request has one map at the very end. Mappings are never joined.
+ * ::
  *
- * An operation is 14 words:
- *   word  0       kind   WAYLLUQEN_KIND_MAP, WAYLLUQEN_KIND_REMAP or WAYLLUQEN_KIND_UNMAP
- *   word  1       keep   1 if the request is a map and the old mapping has its address, object and
- *                        offset; else 0, and for a map operation 0
- *   words 2..6    the old mapping; for a map operation the new one
- *   words 6..10   the lower rest of a remap
- *   words 10..14  the upper rest of a remap
- * A mapping is its four words as in a table. An absent rest is four zeros.
+ *      page   0     1     2     3
+ *      old    |-----------------|    object 7 from n on
+ *      asked        |-----|          object 9 from m on
+ *      new    |-----|-----|-----|    object 7 from n on, object 9 from m on, object 7 from n + 2 on
  *
- * On a grant the operations stand at the front of the operation words, and the words behind them
- * are as they were; the table has its new mappings, and all its words behind them are 0. On a
- * refusal no word is changed.
+ *      a remap of the old one with both rests, and a map
  *
- * table: table_words words, operations: operation_words words, both aligned as a uint64_t is, that
- * can be read and written. They must not overlap, and nobody else may use them meanwhile. Not
- * NULL, also for 0 words. The words and the numbers may have any value. No pointer is kept.
+ * On a grant the operations stand at the front of @operations, and the words behind them are as
+ * they were. The table has the mappings that the operations lead to, and zeros behind them. Each
+ * page of the range then shows what was asked, and every other page what it showed before.
  *
- * Lend (table_words / 4 + 1) * 14 operation words: no request needs more, and fewer are refused.
+ * On a refusal no word of @table and @operations has changed.
  *
- * Refuses with the first of these that is true, in this order:
- *   WAYLLUQEN_BAD_OP             op is neither 0 nor 1
- *   WAYLLUQEN_BAD_SPACE          the space breaks one of its rules
- *   WAYLLUQEN_BAD_TABLE_LENGTH   table_words is 0, no multiple of 4, or above 2048
- *   WAYLLUQEN_SHORT_OPERATIONS   operation_words is below (table_words / 4 + 1) * 14
- *   WAYLLUQEN_BAD_COUNT          count is above table_words / 4
- *   WAYLLUQEN_BAD_MAPPING        a mapping breaks one of its rules, or overlaps or precedes the
- *                                one before it
- *   WAYLLUQEN_UNALIGNED          address, size or offset is no multiple of a page, or size is 0
- *   WAYLLUQEN_OUTSIDE_SPACE      the range is not inside the space
- *   WAYLLUQEN_RESERVED           the range shares a byte with the reservation
- *   WAYLLUQEN_BAD_OBJECT         a map with object 0 or above 2^32 - 1; an unmap with object or
- *                                offset not 0
- *   WAYLLUQEN_BAD_OFFSET         a map with offset + size above 2^48
- *   WAYLLUQEN_NO_ROOM            there would be more than table_words / 4 mappings afterwards; what
- *                                the request frees counts as free
+ * Returns: the first of %WAYLLUQEN_REFUSED_BAD_OP, %WAYLLUQEN_REFUSED_BAD_SPACE,
+ * %WAYLLUQEN_REFUSED_BAD_TABLE_LENGTH, %WAYLLUQEN_REFUSED_SHORT_OPERATIONS,
+ * %WAYLLUQEN_REFUSED_BAD_COUNT, %WAYLLUQEN_REFUSED_BAD_MAPPING, %WAYLLUQEN_REFUSED_UNALIGNED,
+ * %WAYLLUQEN_REFUSED_OUTSIDE_SPACE, %WAYLLUQEN_REFUSED_RESERVED, %WAYLLUQEN_REFUSED_BAD_OBJECT,
+ * %WAYLLUQEN_REFUSED_BAD_OFFSET and %WAYLLUQEN_REFUSED_NO_ROOM that applies; or %WAYLLUQEN_OK
+ * with the number of operations and the count to go on with.
  */
 waylluqen_answer waylluqen_bind(waylluqen_space space, uint64_t *table, size_t table_words,
                                 uint64_t count, uint64_t *operations, size_t operation_words,
                                 waylluqen_request request);
 
-/*
- * Does the same for a request that comes as a record, laid out as for waylluqen_check_request.
+/**
+ * waylluqen_bind_record() - map or unmap a range, by a record
+ * @space: the space
+ * @table: its table
+ * @table_words: how many words the table has
+ * @count: how many mappings the table has
+ * @operations: where the operations are written to
+ * @operation_words: how many words that are
+ * @record: what is asked for, as a program handed it over; see &enum waylluqen_record_byte
+ * @record_bytes: how many bytes that are
  *
- * record: record_bytes readable bytes, of any alignment, that overlap neither table nor
- * operations. Not NULL, also where record_bytes is 0. It is not written to.
+ * Does what waylluqen_bind() does for the request that the record holds. The record is not
+ * written to.
  *
- * Before any other it refuses with the first of these that is true, in this order:
- *   WAYLLUQEN_BAD_RECORD_LENGTH  record_bytes is not 40
- *   WAYLLUQEN_BAD_OP             op is neither 0 nor 1
- *   WAYLLUQEN_BAD_FLAGS          flags or pad is not 0
+ * Returns: the first of %WAYLLUQEN_REFUSED_BAD_RECORD_LENGTH, %WAYLLUQEN_REFUSED_BAD_OP and
+ * %WAYLLUQEN_REFUSED_BAD_FLAGS that applies; else what waylluqen_bind() returns.
  */
 waylluqen_answer waylluqen_bind_record(waylluqen_space space, uint64_t *table, size_t table_words,
                                        uint64_t count, uint64_t *operations,
                                        size_t operation_words, const uint8_t *record,
                                        size_t record_bytes);
+
+/**
+ * waylluqen_lookup() - what the byte at an address shows
+ * @space: the space
+ * @table: its table
+ * @table_words: how many words the table has
+ * @count: how many mappings the table has
+ * @address: the address; any, also one outside the space
+ *
+ * An address inside a mapping shows the mapping's object at offset + (address - the mapping's
+ * address). Any other shows nothing, and that is no refusal. Nothing is written.
+ *
+ * Returns: the first of %WAYLLUQEN_REFUSED_BAD_SPACE, %WAYLLUQEN_REFUSED_BAD_TABLE_LENGTH,
+ * %WAYLLUQEN_REFUSED_BAD_COUNT and %WAYLLUQEN_REFUSED_BAD_MAPPING that applies; or %WAYLLUQEN_OK
+ * with what the address shows.
+ */
+waylluqen_translation waylluqen_lookup(waylluqen_space space, const uint64_t *table,
+                                       size_t table_words, uint64_t count, uint64_t address);
+
+/**
+ * waylluqen_check_request() - what is wrong with a request, whatever the table
+ * @record: the request, as a program handed it over; see &enum waylluqen_record_byte
+ * @record_bytes: how many bytes that are
+ * @start: as in &waylluqen_space
+ * @size: as in &waylluqen_space
+ * @reserved_start: as in &waylluqen_space
+ * @reserved_size: as in &waylluqen_space
+ *
+ * For a driver that turns a bad request down before it takes any lock. Nothing is written.
+ *
+ * Returns: the first of %WAYLLUQEN_REFUSED_BAD_RECORD_LENGTH, %WAYLLUQEN_REFUSED_BAD_OP,
+ * %WAYLLUQEN_REFUSED_BAD_FLAGS, %WAYLLUQEN_REFUSED_BAD_SPACE, %WAYLLUQEN_REFUSED_UNALIGNED,
+ * %WAYLLUQEN_REFUSED_OUTSIDE_SPACE, %WAYLLUQEN_REFUSED_RESERVED, %WAYLLUQEN_REFUSED_BAD_OBJECT
+ * and %WAYLLUQEN_REFUSED_BAD_OFFSET that applies, or %WAYLLUQEN_OK.
+ */
+uint32_t waylluqen_check_request(const uint8_t *record, size_t record_bytes, uint64_t start,
+                                 uint64_t size, uint64_t reserved_start, uint64_t reserved_size);
 
 #ifdef __cplusplus
 }

@@ -1,27 +1,58 @@
-//! The static library's functions, as `include/waylluqen.h` declares them.
+//! The static library's calls, with their answers in the words in which C has them. All `unsafe`
+//! is in this file; `include/waylluqen.h` says what the calls are.
 //!
-//! For tests and benchmarks that look at every word of an answer; others use the crate's own
-//! functions.
+//! For tests and benchmarks that look at every word of an answer, and for drivers that keep their
+//! tables in structures of their own; others use [`Table`](crate::Table).
+//!
+//! ```
+//! use waylluqen::{ffi, operation_list_words, table_words, Request, Space};
+//!
+//! let space = Space::new(0, 0x1_0000);
+//! let mut table = [0; table_words(2)];
+//! let mut list = [0; operation_list_words(2)];
+//! let request = Request::map(0x1000, 0x1000, 7, 0);
+//! let answer = ffi::bind(space, &mut table, 0, &mut list, request);
+//! assert_eq!((answer.refusal, answer.count), (0, 1));
+//! assert_eq!(ffi::lookup(space, &table, answer.count, 0x1008).offset, 8);
+//! ```
+
+#![allow(unsafe_code)]
 
 use crate::{Request, Space};
 
-/// The answer to a look-up: `waylluqen_translation`.
+/// The answer to a look-up: `waylluqen_translation`. What does not apply is 0.
+///
+/// ```
+/// use waylluqen::{ffi, Space};
+///
+/// let shown = ffi::lookup(Space::new(0, 0x1_0000), &[0x1000, 0x1000, 7, 0], 1, 0x1008);
+/// let words = ffi::Translation { refusal: 0, place: 0, mapped: 1, object: 7, offset: 8 };
+/// assert_eq!(shown, words);
+/// ```
 #[repr(C)]
 #[derive(Clone, Copy, Debug, PartialEq, Eq)]
 pub struct Translation {
     /// The number of the refusal; 0 where the look-up is answered.
     pub refusal: u64,
-    /// The place of a mapping that is refused, else 0.
+    /// The place of a mapping that is refused.
     pub place: u64,
-    /// 1 where the address is in a mapping, else 0.
+    /// 1 where the address is in a mapping.
     pub mapped: u64,
-    /// The object that is mapped there, else 0.
+    /// The object that is mapped there.
     pub object: u64,
-    /// The address's offset in the object, else 0.
+    /// The byte of the object that the address shows.
     pub offset: u64,
 }
 
 /// The answer to a request: `waylluqen_answer`.
+///
+/// ```
+/// use waylluqen::{ffi, Request, Space};
+///
+/// let unmap = Request::unmap(0, 0x1000);
+/// let answer = ffi::bind(Space::new(0, 0x1_0000), &mut [0; 4], 9, &mut [0; 28], unmap);
+/// assert_eq!(answer, ffi::Answer { refusal: 4, place: 0, operations: 0, count: 9 });
+/// ```
 #[repr(C)]
 #[derive(Clone, Copy, Debug, PartialEq, Eq)]
 pub struct Answer {
@@ -36,12 +67,7 @@ pub struct Answer {
 }
 
 extern "C" {
-    /// Checks one request record.
-    ///
-    /// # Safety
-    ///
-    /// `record` is not null, and `record_bytes` bytes can be read there.
-    pub fn waylluqen_check_request(
+    fn waylluqen_check_request(
         record: *const u8,
         record_bytes: usize,
         start: u64,
@@ -50,12 +76,7 @@ extern "C" {
         reserved_size: u64,
     ) -> u32;
 
-    /// Looks up one byte address.
-    ///
-    /// # Safety
-    ///
-    /// `table` is not null and aligned, and `table_words` words can be read there.
-    pub fn waylluqen_lookup(
+    fn waylluqen_lookup(
         space: Space,
         table: *const u64,
         table_words: usize,
@@ -63,13 +84,7 @@ extern "C" {
         address: u64,
     ) -> Translation;
 
-    /// Maps or unmaps a range.
-    ///
-    /// # Safety
-    ///
-    /// `table` and `operations` are not null and aligned, `table_words` and `operation_words` words
-    /// can be read and written there, they don't overlap, and nobody else uses them meanwhile.
-    pub fn waylluqen_bind(
+    fn waylluqen_bind(
         space: Space,
         table: *mut u64,
         table_words: usize,
@@ -79,13 +94,7 @@ extern "C" {
         request: Request,
     ) -> Answer;
 
-    /// Maps or unmaps a range that comes as a record.
-    ///
-    /// # Safety
-    ///
-    /// As for [`waylluqen_bind`]; and `record` is not null, `record_bytes` bytes can be read there,
-    /// and they overlap neither slice.
-    pub fn waylluqen_bind_record(
+    fn waylluqen_bind_record(
         space: Space,
         table: *mut u64,
         table_words: usize,
@@ -95,4 +104,106 @@ extern "C" {
         record: *const u8,
         record_bytes: usize,
     ) -> Answer;
+}
+
+/// Calls `waylluqen_check_request`: the number of the first reason to refuse a record, or 0.
+///
+/// ```
+/// use waylluqen::{ffi, Space};
+///
+/// assert_eq!(ffi::check_request(Space::new(0, 0x1_0000), &[0; 39]), 12);
+/// ```
+pub fn check_request(space: Space, record: &[u8]) -> u32 {
+    // SAFETY: a slice's pointer is not null, also where the slice is empty, and all its bytes can
+    // be read. The call takes any numbers and writes nowhere.
+    unsafe {
+        waylluqen_check_request(
+            record.as_ptr(),
+            record.len(),
+            space.start,
+            space.size,
+            space.reserved_start,
+            space.reserved_size,
+        )
+    }
+}
+
+/// Calls `waylluqen_lookup`.
+///
+/// ```
+/// use waylluqen::{ffi, Space};
+///
+/// let shown = ffi::lookup(Space::new(0, 0x1_0000), &[0; 4], 0, 0x1000);
+/// assert_eq!((shown.refusal, shown.mapped), (0, 0));
+/// ```
+pub fn lookup(space: Space, table: &[u64], count: u64, address: u64) -> Translation {
+    // SAFETY: a slice's pointer is aligned and not null, also where the slice is empty, and all its
+    // words can be read. The call takes any numbers and writes nowhere.
+    unsafe { waylluqen_lookup(space, table.as_ptr(), table.len(), count, address) }
+}
+
+/// Calls `waylluqen_bind`.
+///
+/// ```
+/// use waylluqen::{ffi, Request, Space};
+///
+/// let map = Request::map(0, 0x1000, 7, 0);
+/// let answer = ffi::bind(Space::new(0, 0x1_0000), &mut [0; 4], 0, &mut [0; 28], map);
+/// assert_eq!(answer, ffi::Answer { refusal: 0, place: 0, operations: 1, count: 1 });
+/// ```
+pub fn bind(
+    space: Space,
+    table: &mut [u64],
+    count: u64,
+    operations: &mut [u64],
+    request: Request,
+) -> Answer {
+    // SAFETY: the pointers of two exclusive slices are aligned and not null, also where a slice is
+    // empty, their words can be read and written, and they don't overlap. The call takes any
+    // numbers and writes nowhere else.
+    unsafe {
+        waylluqen_bind(
+            space,
+            table.as_mut_ptr(),
+            table.len(),
+            count,
+            operations.as_mut_ptr(),
+            operations.len(),
+            request,
+        )
+    }
+}
+
+/// Calls `waylluqen_bind_record`.
+///
+/// ```
+/// use waylluqen::{ffi, Space};
+///
+/// let mut record = [0; 40];
+/// record[0] = 1; // unmap
+/// record[33] = 0x10; // the first page
+/// let answer = ffi::bind_record(Space::new(0, 0x1_0000), &mut [0; 4], 0, &mut [0; 28], &record);
+/// assert_eq!(answer, ffi::Answer { refusal: 0, place: 0, operations: 0, count: 0 });
+/// ```
+pub fn bind_record(
+    space: Space,
+    table: &mut [u64],
+    count: u64,
+    operations: &mut [u64],
+    record: &[u8],
+) -> Answer {
+    // SAFETY: as in `bind`; and all bytes of the record can be read, its pointer is not null, and
+    // an exclusive slice does not overlap it.
+    unsafe {
+        waylluqen_bind_record(
+            space,
+            table.as_mut_ptr(),
+            table.len(),
+            count,
+            operations.as_mut_ptr(),
+            operations.len(),
+            record.as_ptr(),
+            record.len(),
+        )
+    }
 }

@@ -1,33 +1,42 @@
 //! The operations that a request leaves for a driver, read from their words.
 
-use crate::{KIND_MAP, KIND_REMAP, KIND_UNMAP, MAPPING_WORDS, OPERATION_WORDS};
+use crate::{Mapping, MAPPING_WORDS, OPERATION_WORDS};
+use core::iter::FusedIterator;
+use core::slice::ChunksExact;
 
-/// A mapping, as a table and an operation have it.
-#[derive(Clone, Copy, Debug, PartialEq, Eq)]
-pub struct Mapping {
-    /// The first address.
-    pub address: u64,
-    /// The size in bytes.
-    pub size: u64,
-    /// What is mapped, from 1 to 2^32 - 1.
-    pub object: u64,
-    /// The offset in the object of the mapping's first byte.
-    pub offset: u64,
-}
+// Where an operation's words stand.
+const KIND: usize = 0;
+const KEEP: usize = 1;
+const NAMED: usize = 2;
+const LOWER: usize = 6;
+const UPPER: usize = 10;
 
-impl From<[u64; MAPPING_WORDS]> for Mapping {
-    fn from([address, size, object, offset]: [u64; MAPPING_WORDS]) -> Mapping {
-        Mapping {
-            address,
-            size,
-            object,
-            offset,
-        }
-    }
-}
+const KIND_MAP: u64 = 0;
+const KIND_REMAP: u64 = 1;
+const KIND_UNMAP: u64 = 2;
 
-/// What a remap leaves of a mapping.
-#[derive(Clone, Copy, Debug, PartialEq, Eq)]
+/// What a remap leaves of a mapping: it shows what it showed.
+///
+/// ```
+/// use waylluqen::{operation_list_words, table_words, Mapping, Operation, Request, Rests};
+/// use waylluqen::{Space, Table};
+///
+/// let space = Space::new(0, 0x1_0000);
+/// let mut words = [0; table_words(2)];
+/// let mut list = [0; operation_list_words(2)];
+/// let mut table = Table::empty(&mut words);
+/// let _ = table.bind(space, Request::map(0, 0x3000, 7, 0), &mut list)?;
+///
+/// // A hole in its middle leaves two.
+/// let hole = table.bind(space, Request::unmap(0x1000, 0x1000), &mut list)?.next();
+/// let Some(Operation::Remap { rests: Rests::Both { lower, upper }, .. }) = hole else {
+///     panic!("{hole:?}");
+/// };
+/// assert_eq!(lower, Mapping::from([0, 0x1000, 7, 0]));
+/// assert_eq!(upper, Mapping::from([0x2000, 0x1000, 7, 0x2000]));
+/// # Ok::<(), waylluqen::Refusal>(())
+/// ```
+#[derive(Clone, Copy, Debug, PartialEq, Eq, Hash)]
 pub enum Rests {
     /// The part below the requested range.
     Lower(Mapping),
@@ -44,8 +53,32 @@ pub enum Rests {
 
 /// What a driver has to do.
 ///
-/// `keep` is true if the request is a map and the old mapping has its address, object and offset.
-#[derive(Clone, Copy, Debug, PartialEq, Eq)]
+/// `keep` is true if the request is a map and the old mapping has its address, object and offset,
+/// so that a driver may keep page entries that both have.
+///
+/// ```
+/// use waylluqen::{Mapping, Operation, Rests};
+///
+/// /// How many pages a driver has to clear first, or to write.
+/// fn pages(operation: Operation) -> u64 {
+///     let bytes = match operation {
+///         Operation::Map(new) => new.size,
+///         Operation::Remap { old, rests: Rests::Lower(rest) | Rests::Upper(rest), .. } => {
+///             old.size - rest.size
+///         }
+///         Operation::Remap { old, rests: Rests::Both { lower, upper }, .. } => {
+///             old.size - lower.size - upper.size
+///         }
+///         Operation::Unmap { old, .. } => old.size,
+///     };
+///     bytes / waylluqen::PAGE_SIZE
+/// }
+///
+/// let old = Mapping { address: 0, size: 0x3000, object: 7, offset: 0 };
+/// let rests = Rests::Lower(Mapping { size: 0x1000, ..old });
+/// assert_eq!(pages(Operation::Remap { old, rests, keep: false }), 2);
+/// ```
+#[derive(Clone, Copy, Debug, PartialEq, Eq, Hash)]
 pub enum Operation {
     /// Map the new mapping.
     Map(Mapping),
@@ -69,15 +102,23 @@ pub enum Operation {
 
 impl Operation {
     /// Reads an operation's words; `None` for words that no request leaves.
+    ///
+    /// ```
+    /// use waylluqen::{Mapping, Operation};
+    ///
+    /// let words = [0, 0, 0x1000, 0x2000, 7, 0, 0, 0, 0, 0, 0, 0, 0, 0];
+    /// let new = Mapping::from([0x1000, 0x2000, 7, 0]);
+    /// assert_eq!(Operation::read(&words), Some(Operation::Map(new)));
+    /// assert_eq!(Operation::read(&[3; 14]), None);
+    /// ```
     pub fn read(words: &[u64; OPERATION_WORDS]) -> Option<Operation> {
-        let &[kind, keep, a, b, c, d, e, f, g, h, i, j, k, l] = words;
-        let named = Mapping::from([a, b, c, d]);
-        let keep = match keep {
+        let named = mapping_at(words, NAMED);
+        let keep = match words[KEEP] {
             0 => false,
             1 => true,
             _ => return None,
         };
-        match (kind, rest([e, f, g, h]), rest([i, j, k, l])) {
+        match (words[KIND], rest_at(words, LOWER), rest_at(words, UPPER)) {
             (KIND_MAP, None, None) if !keep => Some(Operation::Map(named)),
             (KIND_UNMAP, None, None) => Some(Operation::Unmap { old: named, keep }),
             (KIND_REMAP, lower, upper) => Some(Operation::Remap {
@@ -90,9 +131,14 @@ impl Operation {
     }
 }
 
+fn mapping_at(words: &[u64; OPERATION_WORDS], at: usize) -> Mapping {
+    Mapping::from([words[at], words[at + 1], words[at + 2], words[at + 3]])
+}
+
 /// Four zeros are no rest.
-fn rest(words: [u64; MAPPING_WORDS]) -> Option<Mapping> {
-    (words != [0; MAPPING_WORDS]).then_some(Mapping::from(words))
+fn rest_at(words: &[u64; OPERATION_WORDS], at: usize) -> Option<Mapping> {
+    let rest = mapping_at(words, at);
+    (rest != Mapping::from([0; MAPPING_WORDS])).then_some(rest)
 }
 
 fn rests(lower: Option<Mapping>, upper: Option<Mapping>) -> Option<Rests> {
@@ -104,12 +150,56 @@ fn rests(lower: Option<Mapping>, upper: Option<Mapping>) -> Option<Rests> {
     }
 }
 
-/// Reads the first `number` operations of a slice, fewer if it is shorter.
+/// The operations of a granted request, in the order in which a driver carries them out: one for
+/// each mapping that was hit, ascending, and a map's own at the very end.
 ///
-/// Words that no request leaves read as `None`; all others, as `bind` writes them, as `Some`.
-pub fn operations(words: &[u64], number: usize) -> impl Iterator<Item = Option<Operation>> + '_ {
-    words
-        .chunks_exact(OPERATION_WORDS)
-        .take(number)
-        .map(|words| Operation::read(words.try_into().ok()?))
+/// ```
+/// use waylluqen::{operation_list_words, Mapping, Operation, Request, Space, Table};
+///
+/// let space = Space::new(0, 0x1_0000);
+/// let mut words = [0; 4];
+/// let mut list = [0; operation_list_words(1)];
+/// let mut table = Table::empty(&mut words);
+/// let _ = table.bind(space, Request::map(0, 0x1000, 7, 0), &mut list)?;
+///
+/// let mut operations = table.bind(space, Request::map(0, 0x2000, 7, 0), &mut list)?;
+/// assert_eq!(operations.len(), 2);
+/// let old = Mapping { address: 0, size: 0x1000, object: 7, offset: 0 };
+/// let new = Mapping { size: 0x2000, ..old };
+/// assert_eq!(operations.next(), Some(Operation::Unmap { old, keep: true }));
+/// assert_eq!(operations.next(), Some(Operation::Map(new)));
+/// assert_eq!(operations.next(), None);
+/// # Ok::<(), waylluqen::Refusal>(())
+/// ```
+#[derive(Clone, Debug)]
+#[must_use = "a driver has to carry these out"]
+pub struct Operations<'a> {
+    words: ChunksExact<'a, u64>,
 }
+
+impl<'a> Operations<'a> {
+    /// The first `number` operations of a list that the library wrote.
+    pub(crate) fn new(list: &'a [u64], number: u64) -> Operations<'a> {
+        let written = &list[..number as usize * OPERATION_WORDS];
+        Operations {
+            words: written.chunks_exact(OPERATION_WORDS),
+        }
+    }
+}
+
+impl Iterator for Operations<'_> {
+    type Item = Operation;
+
+    fn next(&mut self) -> Option<Operation> {
+        let words = self.words.next()?.try_into().ok()?;
+        Some(Operation::read(words).expect("the library is proved to write operations"))
+    }
+
+    fn size_hint(&self) -> (usize, Option<usize>) {
+        self.words.size_hint()
+    }
+}
+
+impl ExactSizeIterator for Operations<'_> {}
+
+impl FusedIterator for Operations<'_> {}

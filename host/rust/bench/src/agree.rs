@@ -2,29 +2,27 @@
 
 use crate::contender::{Answer, FOLDED, LIBRARY, PLAIN};
 use crate::input::{inputs, Input, SIZES};
-use waylluqen::{Refused, Translation};
+use waylluqen::Table;
+use waylluqen_compare::library;
 use waylluqen_model as model;
 use waylluqen_model::PAGE;
 
-fn model_answer(input: &Input, table: &[u64], count: u64, address: u64) -> Answer {
+fn model_answer(input: &Input, words: &[u64], count: u64, address: u64) -> Answer {
     let space = model::Space {
         start: input.space.start,
         size: input.space.size,
         reserved_start: input.space.reserved_start,
         reserved_size: input.space.reserved_size,
     };
-    match model::lookup(&space, table, count, address) {
-        Ok(found) => {
-            Ok(found.map(|model::Translation { object, offset }| Translation { object, offset }))
-        }
-        Err(model::Refused { number, place }) => Err(Refused { number, place }),
-    }
+    library::shown(model::lookup(&space, words, count, address))
 }
 
-fn compare(input: &Input, table: &[u64], count: u64, address: u64) {
-    let expected = model_answer(input, table, count, address);
+fn compare(input: &Input, words: &[u64], count: u64, address: u64) {
+    let expected = model_answer(input, words, count, address);
+    let mut words = words.to_vec();
+    let table = Table::with_count(&mut words, count);
     for contender in PLAIN.iter().chain([&LIBRARY, &FOLDED]) {
-        let answer = (contender.lookup)(input.space, table, count, address);
+        let answer = (contender.lookup)(input.space, &table, address);
         assert_eq!(answer, expected, "{}, address {address:#x}", contender.name);
     }
 }
@@ -44,33 +42,33 @@ fn other_values(present: u64) -> Vec<u64> {
 
 /// Every byte beside an edge of a mapping, and addresses outside.
 fn compare_addresses(input: &Input) {
-    let table = &input.table;
-    for mapping in table.chunks_exact(4) {
+    let words = &input.words;
+    for mapping in words.chunks_exact(4) {
         let (start, end) = (mapping[0], mapping[0] + mapping[1]);
         for address in [start - 1, start, start + 1, end - 1, end, end + 1] {
-            compare(input, table, input.mappings, address);
+            compare(input, words, input.mappings, address);
         }
     }
     for address in [0, 1 << 48, u64::MAX, input.space.reserved_start] {
-        compare(input, table, input.mappings, address);
+        compare(input, words, input.mappings, address);
     }
 }
 
 fn compare_damaged(input: &Input) {
-    let mut table = input.table.clone();
-    for at in 0..table.len() {
-        let good = table[at];
+    let mut words = input.words.clone();
+    for at in 0..words.len() {
+        let good = words[at];
         for other in other_values(good) {
-            table[at] = other;
-            compare(input, &table, input.mappings, input.address);
+            words[at] = other;
+            compare(input, &words, input.mappings, input.address);
         }
-        table[at] = good;
+        words[at] = good;
     }
 }
 
 fn compare_lengths_and_counts(input: &Input) {
-    let table = &input.table;
-    for length in [0, 1, 3, 4, 5, 8, table.len() - 1, table.len()] {
+    let words = &input.words;
+    for length in [0, 1, 3, 4, 5, 8, words.len() - 1, words.len()] {
         let capacity = length as u64 / 4;
         for count in [
             0,
@@ -81,10 +79,10 @@ fn compare_lengths_and_counts(input: &Input) {
             1 << 62,
             u64::MAX,
         ] {
-            compare(input, &table[..length], count, input.address);
+            compare(input, &words[..length], count, input.address);
         }
     }
-    let longer = [&table[..], &[0; 2048]].concat();
+    let longer = [&words[..], &[0; 2048]].concat();
     for length in [2044, 2047, 2048, 2049, 2052] {
         compare(input, &longer[..length], input.mappings, input.address);
     }
@@ -110,7 +108,7 @@ fn compare_spaces() {
                 input.space.reserved_start,
                 input.space.reserved_size,
             ] = numbers;
-            compare(&input, &input.table, input.mappings, input.address);
+            compare(&input, &input.words, input.mappings, input.address);
         }
         numbers[at] = before;
     }
@@ -121,12 +119,12 @@ pub fn assert_equal_answers() {
     for mappings in SIZES {
         let [first, middle, last] = inputs(mappings);
         for input in [&first, &middle, &last] {
-            let answer = model_answer(input, &input.table, mappings, input.address);
+            let answer = model_answer(input, &input.words, mappings, input.address);
             assert!(
                 matches!(answer, Ok(Some(_))),
                 "what is timed finds a mapping"
             );
-            compare(input, &input.table, mappings, input.address);
+            compare(input, &input.words, mappings, input.address);
             compare_lengths_and_counts(input);
         }
         compare_addresses(&middle);

@@ -1,12 +1,12 @@
 //! What is timed: the library, and the plain versions beside it.
 
 use crate::plain;
-use waylluqen::{Refused, Space, Translation};
+use waylluqen::{Refusal, Space, Table, Translation};
 
-pub type Answer = Result<Option<Translation>, Refused>;
+pub type Answer = Result<Option<Translation>, Refusal>;
 
-/// Space, table, count and address of a look-up, to its answer.
-pub type Lookup = fn(Space, &[u64], u64, u64) -> Answer;
+/// Space, table and address of a look-up, to its answer.
+pub type Lookup = fn(Space, &Table, u64) -> Answer;
 
 pub struct Contender {
     pub name: &'static str,
@@ -41,6 +41,6 @@ pub const FOLDED: Contender = Contender {
 
 /// A call of its own, as the plain ones are, so that all are called alike.
 #[inline(never)]
-fn library(space: Space, table: &[u64], count: u64, address: u64) -> Answer {
-    waylluqen::lookup(space, table, count, address)
+fn library(space: Space, table: &Table, address: u64) -> Answer {
+    table.lookup(space, address)
 }

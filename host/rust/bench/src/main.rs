@@ -13,6 +13,7 @@ use contender::{Contender, FOLDED, LIBRARY, PLAIN};
 use input::{inputs, Input, SIZES};
 use std::hint::black_box;
 use timing::{measure, Spread, Times};
+use waylluqen::Table;
 
 /// The library first, the folded one last.
 fn contenders() -> Vec<&'static Contender> {
@@ -88,8 +89,9 @@ fn call_once(name: &str, mappings: &str, which: &str) {
     let (Some(contender), Some(input)) = (contender, input) else {
         panic!("there is no line or column {name} {mappings} {which}");
     };
-    let answer =
-        black_box(contender.lookup)(input.space, &input.table, input.mappings, input.address);
+    let mut words = input.words.clone();
+    let table = Table::with_count(&mut words, input.mappings);
+    let answer = black_box(contender.lookup)(input.space, &table, input.address);
     let _ = black_box(answer);
 }
 

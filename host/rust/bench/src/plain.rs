@@ -3,8 +3,7 @@
 //! in a fourth that no longer tests mapping by mapping.
 
 use crate::contender::Answer;
-use waylluqen::{Refused, Space, Translation};
-use waylluqen::{BAD_COUNT, BAD_MAPPING, BAD_SPACE, BAD_TABLE_LENGTH};
+use waylluqen::{Refusal, Space, Table, Translation};
 
 const PAGE: u64 = 4096;
 const LIMIT: u64 = 1 << 48;
@@ -45,20 +44,21 @@ fn bounds(space: Space) -> Option<Bounds> {
 }
 
 #[cold]
-fn refused(number: u32, place: usize) -> Refused {
+fn bad_mapping(place: usize) -> Refusal {
     let place = place as u64;
-    Refused { number, place }
+    Refusal::BadMapping { place }
 }
 
 /// The bounds of the space and the mappings of the table, not yet checked.
-fn parts(space: Space, table: &[u64], count: u64) -> Result<(Bounds, &[Mapping]), Refused> {
-    let bounds = bounds(space).ok_or_else(|| refused(BAD_SPACE, 0))?;
-    let (mappings, rest) = table.as_chunks();
-    if table.is_empty() || !rest.is_empty() || table.len() > MOST_WORDS {
-        return Err(refused(BAD_TABLE_LENGTH, 0));
+fn parts<'a>(space: Space, table: &'a Table) -> Result<(Bounds, &'a [Mapping]), Refusal> {
+    let words = table.words();
+    let bounds = bounds(space).ok_or(Refusal::BadSpace)?;
+    let (mappings, rest) = words.as_chunks();
+    if words.is_empty() || !rest.is_empty() || words.len() > MOST_WORDS {
+        return Err(Refusal::BadTableLength);
     }
-    let count = usize::try_from(count).unwrap_or(usize::MAX);
-    let mappings = mappings.get(..count).ok_or_else(|| refused(BAD_COUNT, 0))?;
+    let count = usize::try_from(table.count()).unwrap_or(usize::MAX);
+    let mappings = mappings.get(..count).ok_or(Refusal::BadCount)?;
     Ok((bounds, mappings))
 }
 
@@ -106,13 +106,13 @@ fn shown(mapping: &Mapping, address: u64) -> Option<Translation> {
 
 /// Checks with a branch for each rule, then looks for the address.
 #[inline(never)]
-pub fn checked(space: Space, table: &[u64], count: u64, address: u64) -> Answer {
-    let (bounds, mappings) = parts(space, table, count)?;
+pub fn checked(space: Space, table: &Table, address: u64) -> Answer {
+    let (bounds, mappings) = parts(space, table)?;
     let mut floor = bounds.start;
     for (place, mapping) in mappings.iter().enumerate() {
         match checked_end(&bounds, floor, mapping) {
             Some(end) => floor = end,
-            None => return Err(refused(BAD_MAPPING, place)),
+            None => return Err(bad_mapping(place)),
         }
     }
     Ok(mappings.iter().find_map(|mapping| shown(mapping, address)))
@@ -120,13 +120,13 @@ pub fn checked(space: Space, table: &[u64], count: u64, address: u64) -> Answer 
 
 /// Checks with a branch for each mapping, then looks for the address.
 #[inline(never)]
-pub fn masked(space: Space, table: &[u64], count: u64, address: u64) -> Answer {
-    let (bounds, mappings) = parts(space, table, count)?;
+pub fn masked(space: Space, table: &Table, address: u64) -> Answer {
+    let (bounds, mappings) = parts(space, table)?;
     let mut floor = bounds.start;
     for (place, mapping) in mappings.iter().enumerate() {
         let (holds, end) = masked_end(&bounds, floor, mapping);
         if !holds {
-            return Err(refused(BAD_MAPPING, place));
+            return Err(bad_mapping(place));
         }
         floor = end;
     }
@@ -135,14 +135,14 @@ pub fn masked(space: Space, table: &[u64], count: u64, address: u64) -> Answer {
 
 /// Checks as `masked` does and looks for the address in the same pass.
 #[inline(never)]
-pub fn merged(space: Space, table: &[u64], count: u64, address: u64) -> Answer {
-    let (bounds, mappings) = parts(space, table, count)?;
+pub fn merged(space: Space, table: &Table, address: u64) -> Answer {
+    let (bounds, mappings) = parts(space, table)?;
     let mut floor = bounds.start;
     let mut found = None;
     for (place, mapping) in mappings.iter().enumerate() {
         let (holds, end) = masked_end(&bounds, floor, mapping);
         if !holds {
-            return Err(refused(BAD_MAPPING, place));
+            return Err(bad_mapping(place));
         }
         floor = end;
         if address.wrapping_sub(mapping[0]) < mapping[1] {
@@ -180,8 +180,8 @@ fn lowest_bad_place(bounds: &Bounds, mappings: &[Mapping]) -> usize {
 
 /// Collects the broken rules of all mappings and looks for the place only if there are any.
 #[inline(never)]
-pub fn folded(space: Space, table: &[u64], count: u64, address: u64) -> Answer {
-    let (bounds, mappings) = parts(space, table, count)?;
+pub fn folded(space: Space, table: &Table, address: u64) -> Answer {
+    let (bounds, mappings) = parts(space, table)?;
     let mut floor = bounds.start;
     let mut broken = 0;
     for mapping in mappings {
@@ -190,7 +190,7 @@ pub fn folded(space: Space, table: &[u64], count: u64, address: u64) -> Answer {
         floor = end;
     }
     if broken != 0 {
-        return Err(refused(BAD_MAPPING, lowest_bad_place(&bounds, mappings)));
+        return Err(bad_mapping(lowest_bad_place(&bounds, mappings)));
     }
     Ok(mappings.iter().find_map(|mapping| shown(mapping, address)))
 }

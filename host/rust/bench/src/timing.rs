@@ -4,6 +4,7 @@ use crate::contender::Contender;
 use crate::input::Input;
 use std::hint::black_box;
 use std::time::Instant;
+use waylluqen::{Space, Table};
 
 /// How often each contender is timed on each input.
 const ROUNDS: usize = 1000;
@@ -47,15 +48,31 @@ impl Times {
     }
 }
 
+/// A look-up in words that are lent for as long as it is timed.
+struct Timed<'a> {
+    space: Space,
+    table: Table<'a>,
+    address: u64,
+}
+
+impl<'a> Timed<'a> {
+    fn new(input: &Input, words: &'a mut [u64]) -> Timed<'a> {
+        Timed {
+            space: input.space,
+            table: Table::with_count(words, input.mappings),
+            address: input.address,
+        }
+    }
+}
+
 /// Nanoseconds a call, in a batch of so many calls.
-fn time(contender: &Contender, input: &Input, calls: u32) -> f64 {
+fn time(contender: &Contender, timed: &Timed, calls: u32) -> f64 {
     let start = Instant::now();
     for _ in 0..calls {
         let answer = black_box(contender.lookup)(
-            black_box(input.space),
-            black_box(&input.table),
-            black_box(input.mappings),
-            black_box(input.address),
+            black_box(timed.space),
+            black_box(&timed.table),
+            black_box(timed.address),
         );
         let _ = black_box(answer);
     }
@@ -63,17 +80,17 @@ fn time(contender: &Contender, input: &Input, calls: u32) -> f64 {
 }
 
 /// The number of calls that take about as long as a batch should.
-fn batch(contender: &Contender, input: &Input) -> u32 {
-    let warm_up = time(contender, input, 1000);
+fn batch(contender: &Contender, timed: &Timed) -> u32 {
+    let warm_up = time(contender, timed, 1000);
     (BATCH_NANOSECONDS / warm_up).ceil() as u32
 }
 
 /// One time of each contender, one directly after the other, the one at `first` before the others.
-fn round(contenders: &[&Contender], input: &Input, calls: u32, first: usize) -> Vec<f64> {
+fn round(contenders: &[&Contender], timed: &Timed, calls: u32, first: usize) -> Vec<f64> {
     let mut times = vec![0.0; contenders.len()];
     for turn in 0..contenders.len() {
         let at = (first + turn) % contenders.len();
-        times[at] = time(contenders[at], input, calls);
+        times[at] = time(contenders[at], timed, calls);
     }
     times
 }
@@ -81,17 +98,19 @@ fn round(contenders: &[&Contender], input: &Input, calls: u32, first: usize) -> 
 /// The times on each input. A round goes through all inputs, so that what else the machine does
 /// meanwhile meets them all alike.
 pub fn measure(contenders: &[&Contender], inputs: &[Input]) -> Vec<Times> {
-    let calls: Vec<u32> = inputs
-        .iter()
-        .map(|input| batch(contenders[0], input))
+    let mut words: Vec<Vec<u64>> = inputs.iter().map(|input| input.words.clone()).collect();
+    let lent = inputs.iter().zip(&mut words);
+    let timed: Vec<Timed> = lent
+        .map(|(input, words)| Timed::new(input, words))
         .collect();
-    let mut all: Vec<Times> = inputs
+    let calls: Vec<u32> = timed
         .iter()
-        .map(|_| Times { rounds: Vec::new() })
+        .map(|timed| batch(contenders[0], timed))
         .collect();
+    let mut all: Vec<Times> = timed.iter().map(|_| Times { rounds: Vec::new() }).collect();
     for first in 0..ROUNDS {
-        for ((times, input), &calls) in all.iter_mut().zip(inputs).zip(&calls) {
-            times.rounds.push(round(contenders, input, calls, first));
+        for ((times, timed), &calls) in all.iter_mut().zip(&timed).zip(&calls) {
+            times.rounds.push(round(contenders, timed, calls, first));
         }
     }
     all

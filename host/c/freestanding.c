@@ -1,0 +1,65 @@
+/* SPDX-License-Identifier: MIT */
+/*
+ * A program without a C library: all that it gives the linker is a start and memset(), as a
+ * kernel would. It exits with 0 if the library answers as it should, else with the line that says
+ * otherwise.
+ */
+#include "waylluqen.h"
+
+enum { CAPACITY = 8 };
+
+/* What a program starts with, x86-64 Linux: a stack that is aligned as a call expects. */
+__asm__(".globl _start\n"
+        "_start:\n"
+        "    and $-16, %rsp\n"
+        "    call run\n"
+        "    mov %eax, %edi\n"
+        "    mov $60, %eax\n"
+        "    syscall\n");
+
+void *memset(void *to, int byte, size_t bytes);
+int run(void);
+
+void *memset(void *to, int byte, size_t bytes)
+{
+    volatile unsigned char *next = (unsigned char *)to;
+    while (bytes-- > 0) {
+        *next++ = (unsigned char)byte;
+    }
+    return to;
+}
+
+int run(void)
+{
+    static uint64_t table[WAYLLUQEN_TABLE_WORDS(CAPACITY)];
+    static uint64_t operations[WAYLLUQEN_OPERATION_LIST_WORDS(CAPACITY)];
+    const size_t table_words = WAYLLUQEN_TABLE_WORDS(CAPACITY);
+    const size_t operation_words = WAYLLUQEN_OPERATION_LIST_WORDS(CAPACITY);
+    const waylluqen_space space = {0x100000, 0x100000, 0, 0};
+    const waylluqen_request map = {WAYLLUQEN_OP_MAP, 0x100000, 0x3000, 7, 0};
+    uint8_t hole[WAYLLUQEN_RECORD_BYTES] = {WAYLLUQEN_OP_UNMAP};
+    waylluqen_answer answer;
+    waylluqen_translation shown;
+
+    answer = waylluqen_bind(space, table, table_words, 0, operations, operation_words, map);
+    if (answer.refusal != WAYLLUQEN_OK || answer.operations != 1 || answer.count != 1) {
+        return __LINE__;
+    }
+
+    /* A page in its middle, 0x101000. */
+    hole[WAYLLUQEN_RECORD_ADDR + 1] = 0x10;
+    hole[WAYLLUQEN_RECORD_ADDR + 2] = 0x10;
+    hole[WAYLLUQEN_RECORD_RANGE + 1] = 0x10;
+    if (waylluqen_check_request(hole, sizeof hole, space.start, space.size, 0, 0) != WAYLLUQEN_OK) {
+        return __LINE__;
+    }
+    answer = waylluqen_bind_record(space, table, table_words, 1, operations, operation_words, hole,
+                                   sizeof hole);
+    if (answer.refusal != WAYLLUQEN_OK || answer.operations != 1 || answer.count != 2 ||
+        operations[WAYLLUQEN_OPERATION_KIND] != WAYLLUQEN_KIND_REMAP) {
+        return __LINE__;
+    }
+
+    shown = waylluqen_lookup(space, table, table_words, answer.count, 0x102008);
+    return shown.mapped == 1 && shown.object == 7 && shown.offset == 0x2008 ? 0 : __LINE__;
+}

@@ -1,0 +1,122 @@
+//! A call, what is lent to it, and the model's answer.
+
+use waylluqen_compare::calls::{check, Asking, Caller, Way};
+use waylluqen_compare::library::{self, Bound, Shown};
+use waylluqen_compare::paging::assert_pages;
+use waylluqen_compare::tables::Table;
+use waylluqen_model::{decode, Grant, Request, PAGE};
+
+/// The largest space that is followed page by page.
+const SMALL_SPACE: u64 = 16 * PAGE;
+
+/// What is asked, and what the model answers.
+pub enum Asked {
+    Numbers(Request, Bound),
+    Record(Vec<u8>, Bound),
+    Lookup(u64, Shown),
+    Check(Vec<u8>, u32),
+}
+
+pub struct Call {
+    pub table: Table,
+    /// The words that are lent for operations.
+    pub operations: Vec<u64>,
+    pub asked: Asked,
+    /// Whether the table is what the last call left, and is not lent anew.
+    pub goes_on: bool,
+    /// Whether table, operations and record are lent at the back of their memory: a bit for each.
+    pub at_back: u64,
+}
+
+impl Call {
+    /// Makes the call in one of the ways.
+    pub fn compare(&self, way: Way, caller: &mut Caller) {
+        match &self.asked {
+            Asked::Numbers(request, model) => {
+                self.compare_bind(way, caller, Asking::Numbers(*request), model);
+            }
+            Asked::Record(record, model) => {
+                self.compare_bind(way, caller, Asking::Bytes(record), model);
+            }
+            Asked::Lookup(address, model) => {
+                let Table { space, count, .. } = &self.table;
+                if !self.goes_on {
+                    caller.lend(&self.table.words);
+                    caller.stir(*count, *address);
+                }
+                caller.look_up(way, space, *count, *address, *model);
+            }
+            Asked::Check(record, _) => {
+                check(way, &self.table.space, record);
+            }
+        }
+    }
+
+    fn compare_bind(&self, way: Way, caller: &mut Caller, asking: Asking, model: &Bound) {
+        if !self.goes_on {
+            caller.lend(&self.table.words);
+        }
+        caller.lend_operations(&self.operations);
+        caller.bind(way, &self.table, asking, model);
+        if let (Ok(grant), Way::Types) = (model, way) {
+            self.follow_pages(caller, asking, grant);
+        }
+    }
+
+    fn follow_pages(&self, caller: &Caller, asking: Asking, grant: &Grant) {
+        if self.table.space.size > SMALL_SPACE {
+            return;
+        }
+        let request = match asking {
+            Asking::Numbers(request) => request,
+            Asking::Bytes(record) => decode(record).expect("it was granted"),
+        };
+        let new = Table {
+            space: self.table.space,
+            words: caller.table().to_vec(),
+            count: grant.count,
+        };
+        assert_pages(&self.table, &new, &request, grant, caller.operations());
+    }
+
+    /// What the call has to leave.
+    pub fn outcome(&self) -> Outcome {
+        let mut outcome = Outcome {
+            answer: [0; ANSWER_WORDS],
+            table: self.table.words.clone(),
+            operations: self.operations.clone(),
+        };
+        match &self.asked {
+            Asked::Numbers(_, model) | Asked::Record(_, model) => {
+                let words = library::bound_words(model, self.table.count);
+                let first = [words.refusal, words.place, words.operations, words.count];
+                outcome.answer[..first.len()].copy_from_slice(&first);
+                library::change_table(&mut outcome.table, model);
+                library::write_operations(&mut outcome.operations, model);
+            }
+            Asked::Lookup(_, model) => {
+                let words = library::shown_words(*model);
+                outcome.answer = [
+                    words.refusal,
+                    words.place,
+                    words.mapped,
+                    words.object,
+                    words.offset,
+                ];
+            }
+            Asked::Check(_, model) => outcome.answer[0] = u64::from(*model),
+        }
+        outcome
+    }
+}
+
+/// The longest answer is this many words; a shorter one has zeros behind it.
+pub const ANSWER_WORDS: usize = 5;
+
+/// What a call leaves: its answer and all words that were lent to it.
+#[derive(PartialEq, Eq)]
+pub struct Outcome {
+    pub answer: [u64; ANSWER_WORDS],
+    pub table: Vec<u64>,
+    pub operations: Vec<u64>,
+}

@@ -1,0 +1,276 @@
+//! The calls of a round: tables and requests of all kinds, and a history on one table.
+
+use crate::call::{Asked, Call};
+use waylluqen_compare::calls::{model_answer, Asking};
+use waylluqen_compare::library::{self, Bound};
+use waylluqen_compare::near::{disturb, narrow_record, near_record, widen};
+use waylluqen_compare::numbers::{disturb_space, good_space, other64};
+use waylluqen_compare::requests::{disturb_record, good_record, place, LONGEST_RECORD};
+use waylluqen_compare::tables::{
+    any_address, any_table, disturb_table, good_table, plain_spaces, small_spaces,
+    some_operation_words, Good, Table,
+};
+use waylluqen_model::random::Random;
+use waylluqen_model::table::mapping_at;
+use waylluqen_model::{check_request, lookup, space_holds};
+use waylluqen_model::{Record, Space, MAPPING_WORDS, MOST_MAPPINGS, PAGE, RECORD_BYTES};
+
+/// Of some kinds more than one in a round, so that a history does not outweigh them.
+const TABLES: u64 = 4;
+const ANY_TABLES: u64 = 2;
+const CHECKS: u64 = 24;
+
+/// The calls that this randomness gives.
+pub fn calls(random: &mut Random) -> Vec<Call> {
+    let mut round = Round {
+        random,
+        calls: Vec::new(),
+    };
+    for _ in 0..TABLES {
+        round.near_table();
+    }
+    for _ in 0..ANY_TABLES {
+        round.any_words();
+    }
+    for _ in 0..CHECKS {
+        round.check();
+    }
+    round.history();
+    round.calls
+}
+
+struct Round<'a> {
+    random: &'a mut Random,
+    calls: Vec<Call>,
+}
+
+/// What is to be asked, without the answer.
+enum Question {
+    Record(Record),
+    Numbers(Record),
+    Lookup(u64),
+}
+
+impl Round<'_> {
+    /// Adds a call. Answers what the model does to a request.
+    fn add(&mut self, table: &Table, goes_on: bool, question: Question) -> Option<Bound> {
+        let mut operations = Vec::new();
+        if !matches!(question, Question::Lookup(_)) {
+            let words = some_operation_words(self.random, table.words.len());
+            operations.resize_with(words, || self.random.next_u64());
+        }
+        let asked = self.asked(table, operations.len(), &question);
+        let bound = match &asked {
+            Asked::Numbers(_, bound) | Asked::Record(_, bound) => Some(bound.clone()),
+            Asked::Lookup(..) | Asked::Check(..) => None,
+        };
+        self.calls.push(Call {
+            table: table.clone(),
+            operations,
+            asked,
+            goes_on,
+            at_back: self.random.below(8),
+        });
+        bound
+    }
+
+    fn asked(&mut self, table: &Table, operation_words: usize, question: &Question) -> Asked {
+        match question {
+            Question::Record(record) => {
+                let mut buffer = [0; 8 + LONGEST_RECORD];
+                let bytes = place(self.random, &record.encode(), &mut buffer).to_vec();
+                let bound = model_answer(table, operation_words, Asking::Bytes(&bytes));
+                Asked::Record(bytes, bound)
+            }
+            Question::Numbers(record) => {
+                let mut request = record.request();
+                if self.random.once_in(32) {
+                    widen(self.random, &mut request);
+                }
+                let bound = model_answer(table, operation_words, Asking::Numbers(request));
+                Asked::Numbers(request, bound)
+            }
+            Question::Lookup(address) => {
+                let shown = lookup(&table.space, &table.words, table.count, *address);
+                Asked::Lookup(*address, shown)
+            }
+        }
+    }
+
+    /// A good table or one near it, by numbers, by record, and looked at.
+    fn near_table(&mut self) {
+        let largest = match self.random.below(32) {
+            0 => MOST_MAPPINGS as u64,
+            1..=4 => 64,
+            _ => 12,
+        };
+        let good = good_table(self.random, largest);
+        let spare = self.random.pick(&[0, 0, 1, 2, 3]);
+        let spare = spare.min(MOST_MAPPINGS - good.mappings.len());
+        let words = good.words(self.random, spare);
+        for _ in 0..3 {
+            let mut table = Table {
+                space: good.space,
+                words: words.clone(),
+                count: good.mappings.len() as u64,
+            };
+            let mut record = near_record(self.random, &good);
+            disturb(self.random, &good, &mut table, &mut record);
+            self.add(&table, false, Question::Record(record));
+            self.add(&table, false, Question::Numbers(record));
+            let address = any_address(self.random, &good);
+            self.add(&table, false, Question::Lookup(address));
+            disturb_table(self.random, &good, &mut table);
+            self.add(&table, false, Question::Lookup(address));
+        }
+    }
+
+    fn any_words(&mut self) {
+        let mut table = any_table(self.random);
+        if self.random.once_in(4) {
+            table.count = 0;
+        }
+        let space = match space_holds(&table.space) {
+            true => table.space,
+            false => good_space(self.random),
+        };
+        let record = good_record(self.random, &space);
+        self.add(&table, false, Question::Record(record));
+        self.add(&table, false, Question::Numbers(record));
+        let address = other64(self.random, &table.space, table.space.start);
+        self.add(&table, false, Question::Lookup(address));
+    }
+
+    /// A record by itself: a good one, one near it, or any bytes.
+    fn check(&mut self) {
+        let mut space = good_space(self.random);
+        let mut record = good_record(self.random, &space);
+        for _ in 0..self.random.below(3) {
+            disturb_record(self.random, &mut record, &space);
+        }
+        if self.random.once_in(4) {
+            disturb_space(self.random, &mut space);
+        }
+        let mut bytes = record.encode();
+        if self.random.once_in(16) {
+            let from = self.random.below(RECORD_BYTES as u64) as usize;
+            self.random.fill(&mut bytes[from..]);
+        }
+        let mut buffer = [0; 8 + LONGEST_RECORD];
+        let bytes = place(self.random, &bytes, &mut buffer).to_vec();
+        let number = check_request(&bytes, &space);
+        let (words, count) = (Vec::new(), 0);
+        self.calls.push(Call {
+            table: Table {
+                space,
+                words,
+                count,
+            },
+            operations: Vec::new(),
+            asked: Asked::Check(bytes, number),
+            goes_on: false,
+            at_back: self.random.below(8),
+        });
+    }
+
+    /// Requests on one table, from empty, each on what the last one left, and look-ups between.
+    fn history(&mut self) {
+        let Plan {
+            space,
+            capacity,
+            steps,
+            narrow,
+        } = plan(self.random);
+        let mut table = Table {
+            space,
+            words: vec![0; capacity as usize * MAPPING_WORDS],
+            count: 0,
+        };
+        for step in 0..steps {
+            let good = good_of(&table);
+            let record = next_record(self.random, &good, narrow);
+            let question = match self.random.below(2) {
+                0 => Question::Numbers(record),
+                _ => Question::Record(record),
+            };
+            if let Some(Ok(grant)) = self.add(&table, step > 0, question) {
+                table.count = grant.count;
+                library::change_table(&mut table.words, &Ok(grant));
+            }
+            self.look_ups(&table);
+        }
+    }
+
+    /// Looks at a page of the table now and then, and in a small space at all pages.
+    fn look_ups(&mut self, table: &Table) {
+        let good = good_of(table);
+        if !good.mappings.is_empty() && self.random.once_in(2) {
+            let address = any_address(self.random, &good);
+            self.add(table, true, Question::Lookup(address));
+        }
+        if table.space.size <= 8 * PAGE && self.random.once_in(8) {
+            for page in 0..table.space.size / PAGE {
+                let first = table.space.start + page * PAGE;
+                self.add(table, true, Question::Lookup(first));
+                self.add(table, true, Question::Lookup(first + PAGE - 1));
+            }
+        }
+    }
+}
+
+/// The course of a history.
+struct Plan {
+    space: Space,
+    capacity: u64,
+    steps: u64,
+    /// Whether requests stay near one mapping, so that the table fills up.
+    narrow: bool,
+}
+
+fn plan(random: &mut Random) -> Plan {
+    let (space, capacity) = match random.below(64) {
+        0 => {
+            let most = MOST_MAPPINGS as u64;
+            (random.pick(&plain_spaces()), most - random.up_to(most / 2))
+        }
+        1..=15 => (random.pick(&plain_spaces()), 1 + random.below(40)),
+        16..=31 => (good_space(random), 1 + random.below(20)),
+        _ => (random.pick(&small_spaces()), 1 + random.below(10)),
+    };
+    let narrow = capacity > 40 || random.once_in(2);
+    let steps = match narrow {
+        true => capacity / 2 + random.below(2 * capacity),
+        false => random.below(60),
+    };
+    Plan {
+        space,
+        capacity,
+        steps,
+        narrow,
+    }
+}
+
+/// The space and the mappings of a table that keeps its rules.
+fn good_of(table: &Table) -> Good {
+    let places = 0..table.count as usize;
+    Good {
+        space: table.space,
+        mappings: places
+            .map(|place| mapping_at(&table.words, place))
+            .collect(),
+    }
+}
+
+/// A request near what is mapped or anywhere, mostly a good one.
+fn next_record(random: &mut Random, good: &Good, narrow: bool) -> Record {
+    let mut record = match random.below(16) {
+        0 => good_record(random, &good.space),
+        _ if good.mappings.is_empty() => good_record(random, &good.space),
+        _ if narrow => narrow_record(random, good),
+        _ => near_record(random, good),
+    };
+    if random.once_in(16) {
+        disturb_record(random, &mut record, &good.space);
+    }
+    record
+}

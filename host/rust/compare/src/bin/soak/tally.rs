@@ -1,0 +1,93 @@
+//! How often each kind of call and each answer came.
+
+use crate::call::{Asked, Call};
+use waylluqen_compare::library::{Bound, Shown};
+
+#[derive(Default)]
+pub struct Tally {
+    rounds: u64,
+    by_numbers: u64,
+    by_record: u64,
+    lookups: u64,
+    checks: u64,
+    granted: u64,
+    /// The most mappings that a grant left.
+    largest: u64,
+    mapped: u64,
+    unmapped: u64,
+    /// By number; those that a check does not refuse are at 0.
+    refused: [u64; 15],
+}
+
+impl Tally {
+    pub fn count(&mut self, calls: &[Call]) {
+        self.rounds += 1;
+        for call in calls {
+            match &call.asked {
+                Asked::Numbers(_, bound) => {
+                    self.by_numbers += 1;
+                    self.count_bound(bound);
+                }
+                Asked::Record(_, bound) => {
+                    self.by_record += 1;
+                    self.count_bound(bound);
+                }
+                Asked::Lookup(_, shown) => {
+                    self.lookups += 1;
+                    self.count_shown(shown);
+                }
+                Asked::Check(_, number) => {
+                    self.checks += 1;
+                    self.refused[*number as usize] += 1;
+                }
+            }
+        }
+    }
+
+    fn count_bound(&mut self, bound: &Bound) {
+        match bound {
+            Ok(grant) => {
+                self.granted += 1;
+                self.largest = self.largest.max(grant.count);
+            }
+            Err(refused) => self.refused[refused.number as usize] += 1,
+        }
+    }
+
+    fn count_shown(&mut self, shown: &Shown) {
+        match shown {
+            Ok(Some(_)) => self.mapped += 1,
+            Ok(None) => self.unmapped += 1,
+            Err(refused) => self.refused[refused.number as usize] += 1,
+        }
+    }
+
+    pub fn print(&self, seed: u64) {
+        let Tally {
+            rounds,
+            by_numbers,
+            by_record,
+            lookups,
+            checks,
+            granted,
+            largest,
+            mapped,
+            unmapped,
+            refused: [passed, refused @ ..],
+        } = self;
+        let calls = by_numbers + by_record + lookups + checks;
+        let refused: Vec<String> = (1..)
+            .zip(refused)
+            .map(|(number, times)| format!("{number}: {times}"))
+            .collect();
+        println!(
+            "host/soak: passed, seed {seed}, {rounds} rounds\n\
+             {calls} calls, each made three ways: {by_numbers} requests by numbers, {by_record} by \
+             record, {lookups} look-ups, {checks} checks\n\
+             {granted} requests granted, on tables of up to {largest} mappings; {mapped} addresses \
+             mapped, {unmapped} not; {passed} checks passed\n\
+             refused {}",
+            refused.join(", ")
+        );
+    }
+}

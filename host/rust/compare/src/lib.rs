@@ -1,0 +1,17 @@
+//! Compares the library and the script program to the model: spaces, tables, requests and scripts
+//! to compare them on, and the comparisons themselves.
+
+#![deny(unsafe_code)]
+
+pub mod calls;
+pub mod library;
+pub mod memory;
+pub mod near;
+pub mod numbers;
+pub mod paging;
+pub mod printed;
+pub mod program;
+pub mod requests;
+pub mod scripts;
+pub mod tables;
+mod unread;

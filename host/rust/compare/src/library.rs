@@ -1,0 +1,138 @@
+//! The model's spaces, requests and answers as the library has them.
+
+use waylluqen::{ffi, Refusal, Rests};
+use waylluqen_model::answer;
+use waylluqen_model::bind::KIND_MAP;
+use waylluqen_model::{Grant, Mapping, Operation, Refused, Request, Space, Translation};
+
+/// The model's answers to a request and to a look-up.
+pub type Bound = Result<Grant, Refused>;
+pub type Shown = Result<Option<Translation>, Refused>;
+
+pub fn space(space: &Space) -> waylluqen::Space {
+    waylluqen::Space {
+        start: space.start,
+        size: space.size,
+        reserved_start: space.reserved_start,
+        reserved_size: space.reserved_size,
+    }
+}
+
+pub fn request(request: &Request) -> waylluqen::Request {
+    waylluqen::Request {
+        op: request.op,
+        address: request.address,
+        size: request.size,
+        object: request.object,
+        offset: request.offset,
+    }
+}
+
+pub fn mapping(mapping: Mapping) -> waylluqen::Mapping {
+    waylluqen::Mapping::from(mapping.words())
+}
+
+pub fn refusal(refused: Refused) -> Refusal {
+    match refused.number {
+        answer::BAD_SPACE => Refusal::BadSpace,
+        answer::BAD_TABLE_LENGTH => Refusal::BadTableLength,
+        answer::SHORT_OPERATIONS => Refusal::ShortOperations,
+        answer::BAD_COUNT => Refusal::BadCount,
+        answer::BAD_MAPPING => Refusal::BadMapping {
+            place: refused.place,
+        },
+        answer::UNALIGNED => Refusal::Unaligned,
+        answer::OUTSIDE_SPACE => Refusal::OutsideSpace,
+        answer::RESERVED => Refusal::Reserved,
+        answer::BAD_OBJECT => Refusal::BadObject,
+        answer::BAD_OFFSET => Refusal::BadOffset,
+        answer::NO_ROOM => Refusal::NoRoom,
+        answer::BAD_RECORD_LENGTH => Refusal::BadRecordLength,
+        answer::BAD_OP => Refusal::BadOp,
+        answer::BAD_FLAGS => Refusal::BadFlags,
+        number => unreachable!("{number} is no refusal"),
+    }
+}
+
+pub fn operation(operation: &Operation) -> waylluqen::Operation {
+    let (old, keep) = (mapping(operation.named), operation.keep);
+    let rests = match (operation.lower.map(mapping), operation.upper.map(mapping)) {
+        (Some(lower), Some(upper)) => Rests::Both { lower, upper },
+        (Some(lower), None) => Rests::Lower(lower),
+        (None, Some(upper)) => Rests::Upper(upper),
+        (None, None) if operation.kind == KIND_MAP => return waylluqen::Operation::Map(old),
+        (None, None) => return waylluqen::Operation::Unmap { old, keep },
+    };
+    waylluqen::Operation::Remap { old, rests, keep }
+}
+
+pub fn shown(answer: Shown) -> Result<Option<waylluqen::Translation>, Refusal> {
+    let translation = |shown: Translation| waylluqen::Translation {
+        object: shown.object,
+        offset: shown.offset,
+    };
+    answer.map(|found| found.map(translation)).map_err(refusal)
+}
+
+/// The answer to a request record by itself, of which the model tells the number.
+pub fn checked(number: u32) -> Result<(), Refusal> {
+    match number {
+        answer::OK => Ok(()),
+        number => Err(refusal(Refused::of(number))),
+    }
+}
+
+/// The four words in which C has this answer; `count` is the table's before.
+pub fn bound_words(bound: &Bound, count: u64) -> ffi::Answer {
+    match bound {
+        Ok(grant) => ffi::Answer {
+            refusal: 0,
+            place: 0,
+            operations: grant.operations.len() as u64,
+            count: grant.count,
+        },
+        Err(refused) => ffi::Answer {
+            refusal: u64::from(refused.number),
+            place: refused.place,
+            operations: 0,
+            count,
+        },
+    }
+}
+
+/// The five words in which C has this answer.
+pub fn shown_words(answer: Shown) -> ffi::Translation {
+    let (refusal, place) = match answer {
+        Ok(_) => (0, 0),
+        Err(refused) => (u64::from(refused.number), refused.place),
+    };
+    let found = answer.ok().flatten();
+    ffi::Translation {
+        refusal,
+        place,
+        mapped: u64::from(found.is_some()),
+        object: found.map_or(0, |found| found.object),
+        offset: found.map_or(0, |found| found.offset),
+    }
+}
+
+/// What a grant makes of a table: its mappings, and zeros behind them.
+pub fn change_table(words: &mut [u64], bound: &Bound) {
+    if let Ok(grant) = bound {
+        let mappings = grant.mappings.iter().flat_map(Mapping::words);
+        let zeros = std::iter::repeat(0);
+        for (word, new) in words.iter_mut().zip(mappings.chain(zeros)) {
+            *word = new;
+        }
+    }
+}
+
+/// What a grant makes of the operation words: its operations, and behind them what was there.
+pub fn write_operations(words: &mut [u64], bound: &Bound) {
+    if let Ok(grant) = bound {
+        let written = grant.operations.iter().flat_map(Operation::words);
+        for (word, new) in words.iter_mut().zip(written) {
+            *word = new;
+        }
+    }
+}

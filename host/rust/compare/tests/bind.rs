@@ -1,0 +1,408 @@
+//! Compares the library's map and unmap to the model's, call by call.
+
+use waylluqen_compare::calls::{Asking, Caller};
+use waylluqen_compare::library::Bound;
+use waylluqen_compare::near::{disturb, near_record, widen};
+use waylluqen_compare::numbers::{space_of, LIMIT};
+use waylluqen_compare::paging::assert_pages;
+use waylluqen_compare::requests::{good_record, place, LONGEST_RECORD};
+use waylluqen_compare::tables::{
+    any_table, fill_space, good_table, plain_spaces, small_spaces, some_operation_words, Good,
+    Table,
+};
+use waylluqen_model::bind::{least_operation_words, KIND_MAP, KIND_REMAP};
+use waylluqen_model::random::Random;
+use waylluqen_model::{
+    space_holds, Grant, Mapping, Operation, Record, Request, Space, MAP, MAPPING_WORDS,
+    MOST_MAPPINGS, PAGE, UNMAP,
+};
+
+/// Compares, and counts how often each answer and each kind of cut came.
+struct Tally {
+    caller: Caller,
+    calls: u64,
+    /// Grants of maps and of unmaps.
+    granted: [u64; 2],
+    /// By number.
+    refused: [u64; 15],
+    /// Grants that hit no mapping, one, two, more.
+    hits: [u64; 4],
+    /// Remaps with a lower rest alone, an upper rest alone, both.
+    rests: [u64; 3],
+    /// Requests that leave a lower rest of one mapping and an upper rest of another.
+    both_ends: u64,
+    /// Unmaps and remaps with the keep mark.
+    kept: [u64; 2],
+    /// Maps that a full table has room for only because they free some.
+    freed: u64,
+    /// Good spaces with nothing reserved, all, the lower end, the upper end, a part between.
+    reserved: [u64; 5],
+}
+
+/// Which part of a good space is reserved, as its place in `Tally::reserved`.
+fn reserved_part(space: &Space) -> usize {
+    let at_start = space.reserved_start == space.start;
+    let reserved_end = space.reserved_start + space.reserved_size;
+    let at_end = reserved_end == space.start + space.size;
+    match (space.reserved_size, at_start, at_end) {
+        (0, ..) => 0,
+        (_, true, true) => 1,
+        (_, true, false) => 2,
+        (_, false, true) => 3,
+        (_, false, false) => 4,
+    }
+}
+
+impl Tally {
+    fn new(seed: u64) -> Tally {
+        Tally {
+            caller: Caller::new(seed),
+            calls: 0,
+            granted: [0; 2],
+            refused: [0; 15],
+            hits: [0; 4],
+            rests: [0; 3],
+            both_ends: 0,
+            kept: [0; 2],
+            freed: 0,
+            reserved: [0; 5],
+        }
+    }
+
+    fn compare(&mut self, table: &Table, operation_words: usize, asking: Asking) -> Bound {
+        let answer = self.caller.compare(table, operation_words, asking);
+        self.calls += 1;
+        if space_holds(&table.space) {
+            self.reserved[reserved_part(&table.space)] += 1;
+        }
+        match &answer {
+            Ok(grant) => self.note_grant(table, grant),
+            Err(refused) => self.refused[refused.number as usize] += 1,
+        }
+        answer
+    }
+
+    /// The same where there are operation words enough.
+    fn compare_numbers(&mut self, table: &Table, request: &Request) -> Bound {
+        let least = least_operation_words(table.words.len() / MAPPING_WORDS);
+        self.compare(table, least, Asking::Numbers(*request))
+    }
+
+    fn note_grant(&mut self, table: &Table, grant: &Grant) {
+        let is_map = |operation: &Operation| operation.kind == KIND_MAP;
+        let maps = grant.operations.last().is_some_and(is_map);
+        let cuts = &grant.operations[..grant.operations.len() - usize::from(maps)];
+        self.granted[usize::from(!maps)] += 1;
+        self.hits[cuts.len().min(3)] += 1;
+        for cut in cuts {
+            match (cut.lower, cut.upper) {
+                (Some(_), None) => self.rests[0] += 1,
+                (None, Some(_)) => self.rests[1] += 1,
+                (Some(_), Some(_)) => self.rests[2] += 1,
+                (None, None) => {}
+            }
+            self.kept[usize::from(cut.kind == KIND_REMAP)] += u64::from(cut.keep);
+        }
+        if let [first, .., last] = cuts {
+            self.both_ends += u64::from(first.lower.is_some() && last.upper.is_some());
+        }
+        let full = table.count as usize * MAPPING_WORDS == table.words.len();
+        self.freed += u64::from(maps && full);
+    }
+
+    /// Every refusal, every kind of grant and every kind of cut came at least `least` times.
+    fn assert_all(&self, least: u64) {
+        for (number, &times) in self.refused.iter().enumerate().skip(1) {
+            assert!(times >= least, "refusal {number} came only {times} times");
+        }
+        let kinds = [
+            ("granted", &self.granted[..]),
+            ("hits", &self.hits[..]),
+            ("rests", &self.rests[..]),
+            ("both ends", &[self.both_ends]),
+            ("kept", &self.kept[..]),
+            ("freed", &[self.freed]),
+            ("reserved", &self.reserved[..]),
+        ];
+        for (kind, times) in kinds {
+            let enough = times.iter().all(|&times| times >= least);
+            assert!(enough, "{kind} came too rarely: {times:?}");
+        }
+    }
+
+    /// Seen with `cargo test -- --nocapture`.
+    fn print(&self, test: &str) {
+        println!(
+            "{test}: {} calls, granted {:?}, refused {:?}, hits {:?}, rests {:?}, both ends {}, \
+             kept {:?}, freed {}, reserved {:?}",
+            self.calls,
+            self.granted,
+            &self.refused[1..],
+            self.hits,
+            self.rests,
+            self.both_ends,
+            self.kept,
+            self.freed,
+            self.reserved
+        );
+    }
+}
+
+/// The same request by numbers, and as a record.
+fn ask_both(random: &mut Random, tally: &mut Tally, table: &Table, record: &Record) {
+    let mut buffer = [0; 8 + LONGEST_RECORD];
+    let bytes = place(random, &record.encode(), &mut buffer);
+    let words = some_operation_words(random, table.words.len());
+    tally.compare(table, words, Asking::Bytes(bytes)).ok();
+    let mut request = record.request();
+    if random.once_in(16) {
+        widen(random, &mut request);
+    }
+    tally.compare(table, words, Asking::Numbers(request)).ok();
+}
+
+#[test]
+fn good_tables_and_those_near_them() {
+    const TABLES: u64 = 200_000;
+    const ROUNDS: u64 = 10;
+    let mut random = Random::new(101);
+    let mut tally = Tally::new(102);
+    for turn in 0..TABLES {
+        // Small tables are quick; some are as large as they may be.
+        let largest = if turn % 256 == 0 {
+            MOST_MAPPINGS as u64
+        } else {
+            12
+        };
+        let good = good_table(&mut random, largest);
+        let spare = random
+            .pick(&[0, 0, 1, 2, 3])
+            .min(MOST_MAPPINGS - good.mappings.len());
+        let words = good.words(&mut random, spare);
+        for _ in 0..ROUNDS {
+            let mut table = Table {
+                space: good.space,
+                words: words.clone(),
+                count: good.mappings.len() as u64,
+            };
+            let mut record = near_record(&mut random, &good);
+            disturb(&mut random, &good, &mut table, &mut record);
+            ask_both(&mut random, &mut tally, &table, &record);
+        }
+    }
+    tally.print("good tables and those near them");
+    tally.assert_all(1000);
+    assert!(tally.calls >= 2_000_000);
+    let granted: u64 = tally.granted.iter().sum();
+    assert!(2 * granted > tally.calls, "only {granted} grants");
+}
+
+#[test]
+fn any_words() {
+    const INPUTS: u64 = 100_000;
+    let mut random = Random::new(111);
+    let mut tally = Tally::new(112);
+    for _ in 0..INPUTS {
+        let mut table = any_table(&mut random);
+        if random.once_in(4) {
+            table.count = 0;
+        }
+        let space = match random.below(4) {
+            0 => space_of([0, LIMIT, 0, 0]),
+            _ if space_holds(&table.space) => table.space,
+            _ => space_of([0, 16 * PAGE, 0, 0]),
+        };
+        let record = good_record(&mut random, &space);
+        ask_both(&mut random, &mut tally, &table, &record);
+    }
+    tally.print("any words");
+    for number in [1, 2, 3, 4, 5, 7, 8] {
+        let times = tally.refused[number];
+        assert!(times >= 1000, "refusal {number} came only {times} times");
+    }
+    assert!(tally.granted.iter().all(|&times| times >= 1000));
+}
+
+/// Each op with each range between two of the ends, in tables that are full or nearly so.
+#[test]
+fn every_edge_of_large_tables() {
+    let mut random = Random::new(121);
+    let mut tally = Tally::new(122);
+    for space in plain_spaces() {
+        for most in [1, 2, 17, 100, 511, 512] {
+            let good = fill_space(&mut random, space, most);
+            assert_eq!(good.mappings.len() as u64, most);
+            let ends = page_ends(&good);
+            for spare in [0, 1].into_iter().take(1 + MOST_MAPPINGS - most as usize) {
+                let table = Table {
+                    space,
+                    words: good.words(&mut random, spare),
+                    count: most,
+                };
+                for (at, &from) in ends.iter().enumerate() {
+                    for &to in &ends[at..] {
+                        ask_range(&mut tally, &table, from, to);
+                    }
+                }
+            }
+        }
+    }
+    tally.print("every edge of large tables");
+    assert!(tally.hits.iter().all(|&times| times >= 100));
+    assert!(tally.rests.iter().all(|&times| times >= 20));
+    assert!(tally.refused[11] >= 100 && tally.freed >= 100);
+}
+
+/// The ends of the first, a middle, the last and the widest mapping, and of the space, and a page
+/// beside each.
+fn page_ends(good: &Good) -> Vec<u64> {
+    let mappings = &good.mappings;
+    let chosen = [0, mappings.len() / 2, mappings.len() - 1].map(|place| mappings[place]);
+    let widest = mappings.iter().copied().max_by_key(|mapping| mapping.size);
+    let space_end = good.space.start + good.space.size;
+    let mut ends = vec![good.space.start, space_end];
+    for mapping in chosen.into_iter().chain(widest) {
+        ends.extend([mapping.address, mapping.address + mapping.size]);
+    }
+    let beside = |end: u64| [end.wrapping_sub(PAGE), end, end.wrapping_add(PAGE)];
+    let mut all: Vec<u64> = ends.into_iter().flat_map(beside).collect();
+    all.sort_unstable();
+    all.dedup();
+    all
+}
+
+fn ask_range(tally: &mut Tally, table: &Table, from: u64, to: u64) {
+    let size = to.wrapping_sub(from);
+    for (op, object, offset) in [(MAP, 7, PAGE), (UNMAP, 0, 0)] {
+        let request = Request {
+            op,
+            address: from,
+            size,
+            object,
+            offset,
+        };
+        tally.compare_numbers(table, &request).ok();
+    }
+}
+
+#[test]
+fn words_that_are_no_operation() {
+    let mapping = [PAGE, PAGE, 7, 0];
+    let none = [0; MAPPING_WORDS];
+    let read = |kind: u64, keep: u64, lower: [u64; 4], upper: [u64; 4]| {
+        let words = [&[kind, keep][..], &mapping, &lower, &upper].concat();
+        let words = words.try_into().expect("fourteen words");
+        waylluqen::Operation::read(&words)
+    };
+    assert!(read(0, 0, none, none).is_some());
+    assert!(read(1, 1, mapping, none).is_some());
+    assert!(read(2, 1, none, none).is_some());
+    // A kind or a keep too high, a map with keep, rests where there are none, a remap without.
+    assert_eq!(read(3, 0, none, none), None);
+    assert_eq!(read(2, 2, none, none), None);
+    assert_eq!(read(0, 1, none, none), None);
+    assert_eq!(read(0, 0, none, mapping), None);
+    assert_eq!(read(2, 0, mapping, none), None);
+    assert_eq!(read(1, 0, none, none), None);
+}
+
+/// Follows a grant page by page, and answers whether it was one.
+fn check_pages(tally: &mut Tally, table: &Table, request: &Request) -> bool {
+    let Ok(grant) = tally.compare_numbers(table, request) else {
+        return false;
+    };
+    let new = Table {
+        space: table.space,
+        words: tally.caller.table().to_vec(),
+        count: grant.count,
+    };
+    assert_pages(table, &new, request, &grant, tally.caller.operations());
+    true
+}
+
+#[test]
+fn page_by_page() {
+    const TABLES: u64 = 20_000;
+    const ROUNDS: u64 = 5;
+    let mut random = Random::new(131);
+    let mut tally = Tally::new(132);
+    let mut checked = 0;
+    for _ in 0..TABLES {
+        let space = random.pick(&small_spaces());
+        let most = 1 + random.below(6);
+        let good = fill_space(&mut random, space, most);
+        let spare = random.below(3) as usize;
+        let table = Table {
+            space,
+            words: good.words(&mut random, spare),
+            count: good.mappings.len() as u64,
+        };
+        for _ in 0..ROUNDS {
+            let request = near_record(&mut random, &good).request();
+            checked += u64::from(check_pages(&mut tally, &table, &request));
+        }
+    }
+    tally.print("page by page");
+    println!("  {checked} grants were followed page by page");
+    assert!(checked >= TABLES * ROUNDS / 2);
+    assert!(tally.hits.iter().all(|&times| times >= 1000));
+    assert!(tally.rests.iter().all(|&times| times >= 1000));
+}
+
+/// Every way to put mappings into so many pages: each page is free, starts one, or continues one.
+fn every_table(pages: u32) -> impl Iterator<Item = Vec<Mapping>> {
+    (0..3u64.pow(pages)).filter_map(move |index| {
+        let mut mappings: Vec<Mapping> = Vec::new();
+        let mut open = false;
+        for page in 0..pages {
+            match index / 3u64.pow(page) % 3 {
+                0 => open = false,
+                1 => {
+                    open = true;
+                    mappings.push(Mapping {
+                        address: u64::from(page) * PAGE,
+                        size: PAGE,
+                        object: 7,
+                        offset: u64::from(page + 1) * PAGE,
+                    });
+                }
+                _ => mappings.last_mut().filter(|_| open)?.size += PAGE,
+            }
+        }
+        Some(mappings)
+    })
+}
+
+/// All mappings show one object without a break, as does one of the maps: nothing is joined.
+#[test]
+fn every_table_of_six_pages() {
+    const PAGES: u64 = 6;
+    let mut tally = Tally::new(141);
+    for mappings in every_table(PAGES as u32) {
+        let words: Vec<u64> = mappings.iter().flat_map(Mapping::words).collect();
+        for spare in 0..=2 {
+            let mut table = Table {
+                space: space_of([0, PAGES * PAGE, 0, 0]),
+                words: words.clone(),
+                count: mappings.len() as u64,
+            };
+            table.words.resize(words.len() + spare * MAPPING_WORDS, 1);
+            for from in 0..PAGES {
+                for to in from + 1..=PAGES {
+                    for (op, object, offset) in [(MAP, 7, from + 1), (MAP, 9, 4), (UNMAP, 0, 0)] {
+                        let request = Request {
+                            op,
+                            address: from * PAGE,
+                            size: (to - from) * PAGE,
+                            object,
+                            offset: offset * PAGE,
+                        };
+                        check_pages(&mut tally, &table, &request);
+                    }
+                }
+            }
+        }
+    }
+    tally.print("every table of six pages");
+    assert!(tally.refused[2] > 0 && tally.refused[11] > 0);
+}

@@ -1,0 +1,311 @@
+//! Compares the library's look-up to the model's, input by input.
+
+use waylluqen_compare::calls::{Caller, Way};
+use waylluqen_compare::library::{self, Shown};
+use waylluqen_compare::numbers::{
+    disturb_space, edge_spaces, edges, other64, space_of, HALF, LIMIT,
+};
+use waylluqen_compare::tables::{
+    any_address, any_table, boundaries, damage, fill_space, good_table, other_count, other_length,
+    plain_spaces, small_spaces, Table, DAMAGES, LONGEST_TABLE, MOST_WORDS,
+};
+use waylluqen_model::random::Random;
+use waylluqen_model::{lookup, Refused, Space, MAPPING_WORDS, MOST_MAPPINGS, PAGE};
+
+/// Compares, and counts how often each answer came.
+struct Tally {
+    caller: Caller,
+    comparisons: u64,
+    mapped: u64,
+    unmapped: u64,
+    /// By number.
+    refused: [u64; 6],
+    /// Bad mappings that were the first, the last, or between.
+    first: u64,
+    last: u64,
+    between: u64,
+}
+
+impl Tally {
+    fn new(seed: u64) -> Tally {
+        Tally {
+            caller: Caller::new(seed),
+            comparisons: 0,
+            mapped: 0,
+            unmapped: 0,
+            refused: [0; 6],
+            first: 0,
+            last: 0,
+            between: 0,
+        }
+    }
+
+    /// Looks up in words and by the types, with other words around.
+    fn compare(&mut self, space: &Space, table: &[u64], count: u64, address: u64) -> Shown {
+        let model = lookup(space, table, count, address);
+        self.caller.lend(table);
+        for way in [Way::Words, Way::Types] {
+            self.caller.stir(count, address);
+            self.caller.look_up(way, space, count, address, model);
+        }
+        self.note(model, count);
+        model
+    }
+
+    fn note(&mut self, answer: Shown, count: u64) {
+        self.comparisons += 1;
+        match answer {
+            Ok(Some(_)) => self.mapped += 1,
+            Ok(None) => self.unmapped += 1,
+            Err(refused) => self.refused[refused.number as usize] += 1,
+        }
+        if let Err(Refused { number: 5, place }) = answer {
+            match place {
+                0 => self.first += 1,
+                place if place + 1 == count => self.last += 1,
+                _ => self.between += 1,
+            }
+        }
+    }
+
+    /// Every answer came at least `least` times.
+    fn assert_answers(&self, least: u64) {
+        for number in [1, 2, 4, 5] {
+            let times = self.refused[number];
+            assert!(times >= least, "refusal {number} came only {times} times");
+        }
+        for times in [self.mapped, self.unmapped] {
+            assert!(times >= least, "an answer came only {times} times");
+        }
+        for times in [self.first, self.between, self.last] {
+            assert!(times >= least, "a kind of place came only {times} times");
+        }
+    }
+
+    /// Seen with `cargo test -- --nocapture`.
+    fn print(&self, test: &str) {
+        let [_, space, length, _, count, mapping] = self.refused;
+        println!(
+            "{test}: {} comparisons, mapped {}, unmapped {}, refused 1: {space}, 2: {length}, \
+             4: {count}, 5: {mapping} (first {}, between {}, last {})",
+            self.comparisons, self.mapped, self.unmapped, self.first, self.between, self.last
+        );
+    }
+}
+
+#[test]
+fn good_tables_and_those_near_them() {
+    const TABLES: u64 = 25_000;
+    const CALLS_EACH: u64 = 40;
+    let mut random = Random::new(11);
+    let mut tally = Tally::new(12);
+    for _ in 0..TABLES {
+        let good = good_table(&mut random, MOST_MAPPINGS as u64);
+        let mappings = good.mappings.len();
+        let spare = random.up_to((MOST_MAPPINGS - mappings) as u64) as usize;
+        let words = good.words(&mut random, spare);
+        for _ in 0..CALLS_EACH {
+            let mut space = good.space;
+            let mut table = words.clone();
+            let mut count = mappings as u64;
+            for _ in 0..random.below(3) {
+                damage(&mut random, &good, &mut table);
+            }
+            if random.once_in(16) {
+                disturb_space(&mut random, &mut space);
+            }
+            if random.once_in(16) {
+                let length = other_length(&mut random, table.len());
+                table.resize_with(length, || random.next_u64());
+            }
+            if random.once_in(16) {
+                count = other_count(&mut random, count, table.len() as u64);
+            }
+            let address = any_address(&mut random, &good);
+            tally.compare(&space, &table, count, address).ok();
+        }
+    }
+    tally.print("good tables and those near them");
+    tally.assert_answers(1000);
+    assert!(tally.comparisons >= 1_000_000);
+}
+
+#[test]
+fn every_boundary_of_good_tables() {
+    let mut random = Random::new(21);
+    let mut tally = Tally::new(22);
+    for space in plain_spaces() {
+        for most in [1, 2, 3, 17, 100, 512, 512] {
+            let good = fill_space(&mut random, space, most);
+            assert_eq!(good.mappings.len() as u64, most);
+            let table = good.words(&mut random, 0);
+            for address in boundaries(&good) {
+                tally
+                    .compare(&space, &table, most, address)
+                    .expect("a good table");
+            }
+        }
+    }
+    tally.print("every boundary of good tables");
+    assert!(tally.mapped >= 1000 && tally.unmapped >= 1000);
+}
+
+#[test]
+fn every_word_damaged_in_every_way() {
+    let mut random = Random::new(31);
+    let mut tally = Tally::new(32);
+    let mut refused = [0; DAMAGES.len()];
+    for space in plain_spaces() {
+        for most in [1, 2, 3, 17, 100, 512] {
+            let good = fill_space(&mut random, space, most);
+            assert_eq!(good.mappings.len() as u64, most);
+            let spare = (MOST_MAPPINGS as u64 - most).min(3) as usize;
+            let words = good.words(&mut random, spare);
+            let used = good.mappings.len() * MAPPING_WORDS;
+            for at in 0..used {
+                for ((_, damage), refused) in DAMAGES.iter().zip(&mut refused) {
+                    let mut table = words.clone();
+                    damage(&mut random, &space, &mut table[..used], at);
+                    let address = any_address(&mut random, &good);
+                    let answer = tally.compare(&space, &table, most, address);
+                    *refused += u64::from(answer.is_err());
+                }
+            }
+        }
+    }
+    tally.print("every word damaged in every way");
+    for ((name, _), times) in DAMAGES.iter().zip(refused) {
+        println!("  {name}: refused {times}");
+        assert!(times >= 1000, "{name} was refused only {times} times");
+    }
+}
+
+#[test]
+fn lengths_and_counts() {
+    let mut random = Random::new(41);
+    let mut tally = Tally::new(42);
+    for space in plain_spaces() {
+        let good = fill_space(&mut random, space, MOST_MAPPINGS as u64);
+        let words = good.words(&mut random, MOST_MAPPINGS);
+        for length in (0..=MOST_WORDS + 20).chain([2100, 3000, 3001, LONGEST_TABLE]) {
+            let capacity = (length / MAPPING_WORDS) as u64;
+            for count in edges(&[0, capacity, length as u64, 1 << 32, 1 << 62, HALF]) {
+                let address = any_address(&mut random, &good);
+                tally.compare(&space, &words[..length], count, address).ok();
+            }
+        }
+    }
+    tally.print("lengths and counts");
+    assert!(tally.refused[2] >= 1000 && tally.refused[4] >= 1000);
+    assert!(tally.mapped >= 1000 && tally.unmapped >= 1000);
+    // All the words that an accepted length leaves are good mappings.
+    assert_eq!(tally.refused[1] + tally.refused[5], 0);
+    // The pointer of a slice that never had memory.
+    let [space, ..] = plain_spaces();
+    let refused = waylluqen::Table::empty(&mut []).lookup(library::space(&space), 0);
+    assert_eq!(refused, library::shown(lookup(&space, &[], 0, 0)));
+}
+
+#[test]
+fn spaces_at_edges() {
+    let mut random = Random::new(51);
+    let mut tally = Tally::new(52);
+    let space = space_of([4 * PAGE, 4 * PAGE, 6 * PAGE, PAGE]);
+    let good = fill_space(&mut random, space, 2);
+    let table = good.words(&mut random, 1);
+    for space in edge_spaces() {
+        let address = any_address(&mut random, &good);
+        tally.compare(&space, &table, 2, address).ok();
+    }
+    tally.print("spaces at edges");
+    assert!(tally.refused[1] >= 1000 && tally.refused[5] >= 100);
+    assert!(tally.mapped > 0 && tally.unmapped > 0);
+}
+
+#[test]
+fn any_words() {
+    const INPUTS: u64 = 100_000;
+    let mut random = Random::new(61);
+    let mut tally = Tally::new(62);
+    for _ in 0..INPUTS {
+        let Table {
+            space,
+            words,
+            count,
+        } = any_table(&mut random);
+        let address = other64(&mut random, &space, space.start);
+        tally.compare(&space, &words, count, address).ok();
+    }
+    tally.print("any words");
+    for number in [1, 2, 4, 5] {
+        assert!(tally.refused[number] >= 1000, "{number} came too rarely");
+    }
+    assert!(tally.unmapped >= 1000);
+}
+
+/// Every address, size, object and offset at an edge, together.
+#[test]
+fn one_mapping_at_edges() {
+    let mut tally = Tally::new(71);
+    for space in small_spaces() {
+        let end = space.start + space.size;
+        let reserved_end = space.reserved_start + space.reserved_size;
+        let addresses = edges(&[
+            0,
+            space.start,
+            end,
+            space.reserved_start,
+            reserved_end,
+            HALF,
+        ]);
+        let sizes = edges(&[0, 2 * PAGE, space.size, LIMIT, HALF]);
+        let objects = [
+            0,
+            1,
+            7,
+            (1 << 32) - 1,
+            1 << 32,
+            (1 << 32) + 1,
+            HALF,
+            u64::MAX,
+        ];
+        let offsets = edges(&[0, LIMIT - 2 * PAGE, LIMIT - space.size, LIMIT]);
+        for &address in &addresses {
+            for &size in &sizes {
+                for &object in &objects {
+                    for &offset in &offsets {
+                        let table = [address, size, object, offset];
+                        tally.compare(&space, &table, 1, address).ok();
+                    }
+                }
+            }
+        }
+    }
+    tally.print("one mapping at edges");
+    assert!(tally.mapped >= 100 && tally.refused[5] >= 1000);
+}
+
+/// Two ranges in a space of a few pages, every one beside every other one.
+#[test]
+fn two_mappings_in_a_few_pages() {
+    const PAGES: u64 = 14;
+    let mut tally = Tally::new(81);
+    for space in small_spaces() {
+        let from = space.start.saturating_sub(PAGE);
+        let ranges: Vec<[u64; 2]> = (0..PAGES)
+            .flat_map(|first| (0..=PAGES - first).map(move |pages| [first, pages]))
+            .map(|[first, pages]| [from + first * PAGE, pages * PAGE])
+            .collect();
+        for one in &ranges {
+            for other in &ranges {
+                let table = [one[0], one[1], 7, 0, other[0], other[1], 8, PAGE];
+                for address in [other[0], other[0] + other[1]] {
+                    tally.compare(&space, &table, 2, address).ok();
+                }
+            }
+        }
+    }
+    tally.print("two mappings in a few pages");
+    assert!(tally.mapped >= 100 && tally.unmapped >= 100);
+    assert!(tally.first >= 1000 && tally.last >= 1000);
+}

@@ -1,0 +1,478 @@
+//! A request in pieces: asked one by one, in any order and as often as one likes, they end where
+//! the uncut request ends, if each was granted at least once.
+
+use waylluqen::Refusal;
+use waylluqen_compare::calls::{model_answer, Asking};
+use waylluqen_compare::library;
+use waylluqen_compare::near::{near_record, widen};
+use waylluqen_compare::numbers::{disturb_space, other64};
+use waylluqen_compare::requests::disturb_record;
+use waylluqen_compare::tables::{any_table, damage, fill_space, good_table, small_spaces};
+use waylluqen_compare::tables::{Good, Table};
+use waylluqen_model::bind::least_operation_words;
+use waylluqen_model::random::Random;
+use waylluqen_model::{Mapping, Record, Request, MAP, MAPPING_WORDS, PAGE};
+
+/// How many operations a request left, or why it was refused.
+type Answer = Result<usize, Refusal>;
+
+/// What is asked for: numbers, and the flags and pad that a record has besides.
+#[derive(Clone, Copy, Debug, PartialEq)]
+struct Asked {
+    request: Request,
+    flags: u32,
+    pad: u32,
+}
+
+impl Asked {
+    /// The record of it, if a record's fields can hold it.
+    fn record(&self) -> Option<Record> {
+        Some(Record {
+            op: self.request.op.try_into().ok()?,
+            flags: self.flags,
+            handle: self.request.object.try_into().ok()?,
+            pad: self.pad,
+            addr: self.request.address,
+            bo_offset: self.request.offset,
+            range: self.request.size,
+        })
+    }
+
+    /// The piece `[start, end)`, if 64 bits hold its numbers.
+    fn piece(&self, start: u128, end: u128) -> Option<Asked> {
+        let moved = start - u128::from(self.request.address);
+        let offset = match self.request.op {
+            MAP => u128::from(self.request.offset) + moved,
+            _ => u128::from(self.request.offset),
+        };
+        let request = Request {
+            address: start.try_into().ok()?,
+            size: (end - start).try_into().ok()?,
+            offset: offset.try_into().ok()?,
+            ..self.request
+        };
+        Some(Asked { request, ..*self })
+    }
+}
+
+/// The words and the count that calls are made on, one after the other.
+struct Series {
+    table: Table,
+    operations: Vec<u64>,
+    by_record: u64,
+    by_numbers: u64,
+}
+
+impl Series {
+    fn start(table: &Table, operation_words: usize) -> Series {
+        Series {
+            table: table.clone(),
+            operations: vec![0; operation_words],
+            by_record: 0,
+            by_numbers: 0,
+        }
+    }
+
+    /// Asks by numbers or by record, whichever can hold it; a refusal must leave all as it was.
+    fn ask(&mut self, random: &mut Random, asked: &Asked) -> Answer {
+        self.operations.fill_with(|| random.next_u64());
+        let before = (self.table.words.clone(), self.operations.clone());
+        let plain = asked.flags == 0 && asked.pad == 0;
+        let record = asked.record().filter(|_| !plain || random.once_in(2));
+        let bytes = record.map(|record| record.encode());
+        let asking = match &bytes {
+            Some(bytes) => Asking::Bytes(bytes),
+            None => Asking::Numbers(asked.request),
+        };
+        let answer = self.ask_as(asking);
+        if answer.is_err() {
+            assert!(before == (self.table.words.clone(), self.operations.clone()));
+        }
+        answer
+    }
+
+    /// Goes on with the count that the library gives, and compares the answer to the model's.
+    fn ask_as(&mut self, asking: Asking) -> Answer {
+        let model = model_answer(&self.table, self.operations.len(), asking);
+        let Table {
+            space,
+            words,
+            count,
+        } = &mut self.table;
+        let space = library::space(space);
+        let mut table = waylluqen::Table::with_count(words, *count);
+        let list = &mut self.operations;
+        let operations = match asking {
+            Asking::Numbers(request) => {
+                self.by_numbers += 1;
+                table.bind(space, library::request(&request), list)
+            }
+            Asking::Bytes(record) => {
+                self.by_record += 1;
+                table.bind_record(space, record, list)
+            }
+        };
+        *count = table.count();
+        let answer = operations.map(|operations| operations.len());
+        let expected = model.map(|grant| grant.operations.len());
+        assert_eq!(answer, expected.map_err(library::refusal), "{asking:x?}");
+        answer
+    }
+}
+
+/// Where to cut: multiples of a page strictly inside the range, ascending, up to five.
+fn cuts(random: &mut Random, request: &Request) -> Vec<u128> {
+    let (start, end) = (request.extent().start, request.extent().end);
+    let page = u128::from(PAGE);
+    let first = start / page + 1;
+    let behind = end.div_ceil(page);
+    if behind <= first {
+        return Vec::new();
+    }
+    let most = u64::try_from(behind - first - 1).unwrap_or(u64::MAX);
+    let wished = random.below(6);
+    let mut cuts: Vec<u128> = (0..wished)
+        .map(|_| match random.below(2) {
+            0 => random.up_to(most),
+            _ => random.up_to(most.min(12)),
+        })
+        .map(|skipped| (first + u128::from(skipped)) * page)
+        .collect();
+    cuts.sort_unstable();
+    cuts.dedup();
+    cuts
+}
+
+/// The pieces between the cuts, ascending. One that can't be asked is `None`.
+fn pieces(asked: &Asked, cuts: &[u128]) -> Vec<Option<Asked>> {
+    let extent = asked.request.extent();
+    let mut edges = vec![extent.start];
+    edges.extend(cuts);
+    edges.push(extent.end);
+    let piece = |edge: &[u128]| asked.piece(edge[0], edge[1]);
+    edges.windows(2).map(piece).collect()
+}
+
+/// The places of pieces in any order: perhaps one left out, some repeated, perhaps all of them
+/// once more, so that one for which there was no room is tried again.
+fn order(random: &mut Random, pieces: usize) -> Vec<usize> {
+    let mut order: Vec<usize> = (0..pieces).collect();
+    if random.once_in(8) {
+        order.remove(random.below(pieces as u64) as usize);
+    }
+    for _ in 0..random.below(3) {
+        order.push(random.below(pieces as u64) as usize);
+    }
+    shuffle(random, &mut order);
+    if random.once_in(2) {
+        let mut again: Vec<usize> = (0..pieces).collect();
+        shuffle(random, &mut again);
+        order.extend(again);
+    }
+    order
+}
+
+fn shuffle(random: &mut Random, list: &mut [usize]) {
+    for last in (1..list.len()).rev() {
+        list.swap(last, random.below(last as u64 + 1) as usize);
+    }
+}
+
+/// The words after the uncut map, with the pieces in place of its new mapping, zeros behind.
+fn with_pieces(uncut: &Table, asked: &Asked, pieces: &[Asked]) -> Vec<u64> {
+    let used = &uncut.words[..uncut.count as usize * MAPPING_WORDS];
+    let mut mappings: Vec<&[u64]> = used.chunks(MAPPING_WORDS).collect();
+    let new = mapping_words(asked);
+    let place = mappings.iter().position(|words| **words == new);
+    let place = place.expect("a granted map's own mapping is in the table");
+    let pieces: Vec<[u64; 4]> = pieces.iter().map(mapping_words).collect();
+    mappings.splice(place..=place, pieces.iter().map(|words| &words[..]));
+    let mut words = mappings.concat();
+    words.resize(uncut.words.len(), 0);
+    words
+}
+
+fn mapping_words(asked: &Asked) -> [u64; MAPPING_WORDS] {
+    let Request {
+        address,
+        size,
+        object,
+        offset,
+        ..
+    } = asked.request;
+    let mapping = Mapping {
+        address,
+        size,
+        object,
+        offset,
+    };
+    mapping.words()
+}
+
+/// How often each situation came.
+#[derive(Debug, Default)]
+struct Tally {
+    series: u64,
+    calls: u64,
+    /// Every one of several pieces was granted: of maps, of unmaps.
+    all_granted: [u64; 2],
+    /// The same, and the uncut map cut old mappings or freed some.
+    all_granted_over_old: u64,
+    /// Granted uncut; some piece had no room.
+    without_room: u64,
+    /// A piece had no room and was granted later, and all were granted in the end.
+    room_later: u64,
+    /// Granted uncut; not every piece was.
+    uncut_alone: u64,
+    /// Refused uncut; some piece was granted: for want of room, or at an unaligned end.
+    pieces_alone: u64,
+    unaligned: u64,
+    unaligned_granted: u64,
+    /// Refused uncut and in pieces.
+    refused: u64,
+    repeated: u64,
+    left_out: u64,
+    mixed: u64,
+    /// 64 bits can't hold a number of some piece.
+    unaskable: u64,
+}
+
+/// What became of a series.
+struct Outcome {
+    granted: Vec<bool>,
+    /// A piece was refused with 11; one such was granted later.
+    without_room: bool,
+    room_later: bool,
+    other_refusal: Option<Refusal>,
+}
+
+fn ask_pieces(
+    random: &mut Random,
+    series: &mut Series,
+    pieces: &[Option<Asked>],
+    order: &[usize],
+) -> Outcome {
+    let mut outcome = Outcome {
+        granted: vec![false; pieces.len()],
+        without_room: false,
+        room_later: false,
+        other_refusal: None,
+    };
+    let mut had_no_room = vec![false; pieces.len()];
+    for &place in order {
+        let Some(piece) = &pieces[place] else {
+            continue;
+        };
+        match series.ask(random, piece) {
+            Ok(_) => {
+                outcome.granted[place] = true;
+                outcome.room_later |= had_no_room[place];
+            }
+            Err(Refusal::NoRoom) => {
+                had_no_room[place] = true;
+                outcome.without_room = true;
+            }
+            Err(refusal) => outcome.other_refusal = Some(refusal),
+        }
+    }
+    outcome
+}
+
+/// The claim, for one start, one request, one cut and one series.
+fn check(random: &mut Random, tally: &mut Tally, start: &Table, asked: &Asked) {
+    let least = least_operation_words(start.words.len() / MAPPING_WORDS);
+    let spare = random.pick(&[0, 0, 0, 1, 14]);
+    let mut uncut = Series::start(start, least + spare);
+    let uncut_answer = uncut.ask(random, asked);
+
+    let cuts = cuts(random, &asked.request);
+    let pieces = pieces(asked, &cuts);
+    let order = order(random, pieces.len());
+    let mut series = Series::start(start, least + spare);
+    let outcome = ask_pieces(random, &mut series, &pieces, &order);
+    tally.unaskable += u64::from(pieces.contains(&None));
+
+    if uncut_answer.is_ok() {
+        assert_eq!(outcome.other_refusal, None, "{asked:x?}");
+    }
+    if outcome.granted.iter().all(|&granted| granted) {
+        assert!(uncut_answer.is_ok(), "{uncut_answer:?}, {asked:x?}");
+        let pieces: Option<Vec<Asked>> = pieces.iter().copied().collect();
+        let pieces = pieces.expect("each was granted");
+        let (count, words) = match asked.request.op {
+            MAP => (
+                uncut.table.count + pieces.len() as u64 - 1,
+                with_pieces(&uncut.table, asked, &pieces),
+            ),
+            _ => (uncut.table.count, uncut.table.words),
+        };
+        assert_eq!((series.table.count, &series.table.words), (count, &words));
+    }
+    tally.note(asked, uncut_answer, &outcome, order.len());
+    tally.calls += series.by_record + series.by_numbers;
+    tally.mixed += u64::from(series.by_record > 0 && series.by_numbers > 0);
+}
+
+impl Tally {
+    fn note(&mut self, asked: &Asked, uncut: Answer, outcome: &Outcome, asked_times: usize) {
+        let pieces = outcome.granted.len();
+        let granted = outcome.granted.iter().filter(|&&granted| granted).count();
+        let unaligned = uncut == Err(Refusal::Unaligned);
+        let count = |counter: &mut u64, condition: bool| *counter += u64::from(condition);
+        count(&mut self.series, true);
+        count(&mut self.repeated, asked_times > pieces);
+        count(&mut self.left_out, asked_times < pieces);
+        if let (Ok(operations), true) = (uncut, granted == pieces && pieces > 1) {
+            let kind = usize::from(asked.request.op != MAP);
+            self.all_granted[kind] += 1;
+            count(&mut self.all_granted_over_old, operations > 1 - kind);
+            count(&mut self.room_later, outcome.room_later);
+        }
+        count(
+            &mut self.without_room,
+            uncut.is_ok() && outcome.without_room,
+        );
+        count(&mut self.uncut_alone, uncut.is_ok() && granted < pieces);
+        count(&mut self.pieces_alone, uncut.is_err() && granted > 0);
+        count(&mut self.refused, uncut.is_err() && granted == 0);
+        count(&mut self.unaligned, unaligned && pieces > 1);
+        count(&mut self.unaligned_granted, unaligned && granted > 0);
+    }
+
+    fn assert_all(&self, least: u64) {
+        println!("{self:#?}");
+        let Tally {
+            series: _,
+            calls: _,
+            all_granted: [maps, unmaps],
+            all_granted_over_old,
+            without_room,
+            room_later,
+            uncut_alone,
+            pieces_alone,
+            unaligned,
+            unaligned_granted,
+            refused,
+            repeated,
+            left_out,
+            mixed,
+            unaskable,
+        } = *self;
+        let all = [
+            ("all pieces of a map granted", maps),
+            ("all pieces of an unmap granted", unmaps),
+            ("all pieces granted over old mappings", all_granted_over_old),
+            ("no room for a piece", without_room),
+            ("room for it later", room_later),
+            ("granted uncut alone", uncut_alone),
+            ("granted in pieces alone", pieces_alone),
+            ("unaligned", unaligned),
+            ("unaligned, a piece granted", unaligned_granted),
+            ("refused", refused),
+            ("repeated", repeated),
+            ("left out", left_out),
+            ("by numbers and by record", mixed),
+            ("a piece that can't be asked", unaskable),
+        ];
+        for (situation, times) in all {
+            assert!(times >= least, "{situation}: only {times} times");
+        }
+    }
+}
+
+/// A request near the mappings; some with an unaligned end or offset, or another fault.
+fn some_request(random: &mut Random, good: &Good) -> Asked {
+    let mut record = near_record(random, good);
+    for _ in 0..4 {
+        // One page has no cut.
+        if record.range == PAGE {
+            record = near_record(random, good);
+        }
+    }
+    match random.below(24) {
+        0 => record.addr += 1 + random.below(PAGE - 1),
+        1 => record.range += 1 + random.below(PAGE - 1),
+        2 => record.bo_offset += 1 + random.below(PAGE - 1),
+        3 => disturb_record(random, &mut record, &good.space),
+        4 => record.range = other64(random, &good.space, record.range),
+        // The offsets of some pieces pass 2^64.
+        5 => record.bo_offset = 0u64.wrapping_sub((1 + random.below(4)) * PAGE),
+        _ => {}
+    }
+    let mut asked = Asked {
+        request: record.request(),
+        flags: record.flags,
+        pad: record.pad,
+    };
+    if random.once_in(100) {
+        widen(random, &mut asked.request);
+    }
+    asked
+}
+
+/// A table with little room: good, or with one thing changed.
+fn some_table(random: &mut Random, good: &Good) -> Table {
+    let spare = random.pick(&[0, 1, 2, 2, 3, 4, 5, 8]);
+    let mut table = Table {
+        space: good.space,
+        words: good.words(random, spare),
+        count: good.mappings.len() as u64,
+    };
+    match random.below(32) {
+        0 => damage(random, good, &mut table.words),
+        1 => disturb_space(random, &mut table.space),
+        2 => table.count = random.below(table.count + 2),
+        3 => table.words.truncate(table.words.len() - 1),
+        _ => {}
+    }
+    table
+}
+
+#[test]
+fn good_tables_and_those_near_them() {
+    const TABLES: u64 = 100_000;
+    const ROUNDS: u64 = 5;
+    let mut random = Random::new(201);
+    let mut tally = Tally::default();
+    for _ in 0..TABLES {
+        let good = if random.once_in(2) {
+            let space = random.pick(&small_spaces());
+            let most = 1 + random.below(4);
+            fill_space(&mut random, space, most)
+        } else {
+            good_table(&mut random, 8)
+        };
+        for _ in 0..ROUNDS {
+            let table = some_table(&mut random, &good);
+            let asked = some_request(&mut random, &good);
+            if asked.request.size > 0 {
+                check(&mut random, &mut tally, &table, &asked);
+            }
+        }
+    }
+    tally.assert_all(1000);
+}
+
+#[test]
+fn any_words() {
+    const INPUTS: u64 = 50_000;
+    let mut random = Random::new(211);
+    let mut tally = Tally::default();
+    for _ in 0..INPUTS {
+        let mut table = any_table(&mut random);
+        if random.once_in(2) {
+            table.count = 0;
+        }
+        let good = good_table(&mut random, 4);
+        let asked = some_request(&mut random, &good);
+        if random.once_in(2) {
+            table.space = good.space;
+        }
+        if asked.request.size > 0 {
+            check(&mut random, &mut tally, &table, &asked);
+        }
+    }
+    println!("{tally:#?}");
+    assert!(tally.all_granted.iter().all(|&times| times >= 100));
+    assert!(tally.refused >= 1000);
+}

@@ -1,0 +1,106 @@
+//! Every refusal as a value: its number, its text, and its use as an error.
+
+use std::collections::BTreeSet;
+use std::error::Error;
+use waylluqen::Refusal;
+use waylluqen_compare::calls::{model_answer, Asking, Caller, Way};
+use waylluqen_compare::library;
+use waylluqen_compare::numbers::{space_of, LIMIT};
+use waylluqen_compare::requests::MAP;
+use waylluqen_compare::tables::Table;
+use waylluqen_model::{Record, PAGE};
+
+/// A request on a table with one mapping and no more room.
+struct Case {
+    table: Table,
+    operation_words: usize,
+    record: Record,
+    record_bytes: usize,
+}
+
+fn without_room() -> Case {
+    Case {
+        table: Table {
+            space: space_of([0, 16 * PAGE, 14 * PAGE, 2 * PAGE]),
+            words: vec![PAGE, PAGE, 7, 0],
+            count: 1,
+        },
+        operation_words: 28,
+        record: Record::plain(MAP, 8, 4 * PAGE, 0, PAGE),
+        record_bytes: 40,
+    }
+}
+
+/// What makes it the case of each refusal, in the order of their numbers.
+const CHANGES: [fn(&mut Case); 14] = [
+    |case| case.table.space.size = 1,
+    |case| case.table.words.truncate(3),
+    |case| case.operation_words = 27,
+    |case| case.table.count = 2,
+    |case| case.table.words[1] = 1,
+    |case| case.record.addr = 1,
+    |case| case.record.addr = 16 * PAGE,
+    |case| case.record.addr = 14 * PAGE,
+    |case| case.record.handle = 0,
+    |case| case.record.bo_offset = LIMIT,
+    |_| {},
+    |case| case.record_bytes = 39,
+    |case| case.record.op = 2,
+    |case| case.record.flags = 1,
+];
+
+/// The refusal that the library gives, which is the model's.
+fn refusal_of(mut case: Case) -> Refusal {
+    let bytes = &case.record.encode()[..case.record_bytes];
+    let asking = Asking::Bytes(bytes);
+    let model = model_answer(&case.table, case.operation_words, asking);
+    let mut list = vec![0; case.operation_words];
+    let mut caller = Caller::new(1);
+    for way in [Way::Words, Way::Types] {
+        caller.lend(&case.table.words);
+        caller.lend_operations(&list);
+        caller.bind(way, &case.table, asking, &model);
+    }
+    let space = library::space(&case.table.space);
+    let mut table = waylluqen::Table::with_count(&mut case.table.words, case.table.count);
+    let answer = table.bind_record(space, bytes, &mut list);
+    let refusal = answer.map(|_| ()).expect_err("each case is refused");
+    assert_eq!(refusal.number(), model.expect_err("the same").number);
+    refusal
+}
+
+fn all_refusals() -> Vec<Refusal> {
+    let refusal = |change: &fn(&mut Case)| {
+        let mut case = without_room();
+        change(&mut case);
+        refusal_of(case)
+    };
+    CHANGES.iter().map(refusal).collect()
+}
+
+#[test]
+fn numbers() {
+    let numbers = all_refusals().into_iter().map(Refusal::number);
+    assert!(numbers.eq(1..=14));
+}
+
+#[test]
+fn texts() {
+    let mut refusals = all_refusals();
+    refusals.push(Refusal::BadMapping { place: 511 });
+    let texts: BTreeSet<String> = refusals.iter().map(Refusal::to_string).collect();
+    assert_eq!(texts.len(), refusals.len(), "some are the same: {texts:?}");
+    assert!(texts.iter().all(|text| !text.trim().is_empty()));
+    assert!(texts.iter().any(|text| text.contains("511")));
+}
+
+#[test]
+fn errors() {
+    for refusal in all_refusals() {
+        let error: &dyn Error = &refusal;
+        assert_eq!(error.to_string(), refusal.to_string());
+        assert!(error.source().is_none());
+        let boxed: Box<dyn Error + Send + Sync> = Box::from(refusal);
+        assert_eq!(boxed.downcast_ref(), Some(&refusal));
+    }
+}

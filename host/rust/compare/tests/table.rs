@@ -1,0 +1,58 @@
+//! What a table of the Rust interface tells of its words without a call: any words, any count.
+
+use waylluqen_compare::library;
+use waylluqen_compare::tables::{any_table, good_table, Table};
+use waylluqen_model::random::Random;
+use waylluqen_model::table::mapping_at;
+use waylluqen_model::{MAPPING_WORDS, MOST_MAPPINGS};
+
+/// Compares all that is told to the words, and answers the number of mappings.
+fn compare(table: &Table) -> usize {
+    let Table { words, count, .. } = table;
+    let capacity = words.len() / MAPPING_WORDS;
+    let places = 0..capacity.min(usize::try_from(*count).expect("64 bits"));
+    let number = places.len();
+    let mut lent_words = words.clone();
+    let lent = waylluqen::Table::with_count(&mut lent_words, *count);
+    assert_eq!((lent.count(), lent.capacity()), (*count, capacity));
+    assert_eq!(lent.words(), words);
+    let mappings = places.map(|place| library::mapping(mapping_at(words, place)));
+    assert!(lent.mappings().eq(mappings));
+    number
+}
+
+#[test]
+fn any_words() {
+    let mut random = Random::new(401);
+    let mut cut = 0;
+    for _ in 0..10_000 {
+        let table = any_table(&mut random);
+        cut += u64::from((compare(&table) as u64) < table.count);
+    }
+    assert!(cut >= 1000, "only {cut} counts were above the capacity");
+}
+
+#[test]
+fn good_tables() {
+    let mut random = Random::new(411);
+    for _ in 0..1000 {
+        let good = good_table(&mut random, MOST_MAPPINGS as u64);
+        let table = Table {
+            space: good.space,
+            words: good.words(&mut random, 1),
+            count: good.mappings.len() as u64,
+        };
+        assert_eq!(compare(&table), good.mappings.len());
+    }
+}
+
+#[test]
+fn empty_tables() {
+    let mut random = Random::new(421);
+    for length in 0..40 {
+        let mut words: Vec<u64> = (0..length).map(|_| random.next_u64()).collect();
+        let table = waylluqen::Table::empty(&mut words);
+        assert_eq!((table.count(), table.mappings().count()), (0, 0));
+        assert_eq!(table.words(), vec![0; length]);
+    }
+}

@@ -1,0 +1,139 @@
+//! Why a call is refused.
+
+use core::fmt;
+
+/// The first rule that a call's table, numbers or record break. No lent word has changed then.
+///
+/// Where several apply, the answer is the first in the order 12, 13, 14, then 1 to 11 of their
+/// [numbers](Refusal::number).
+///
+/// ```
+/// use waylluqen::{operation_list_words, Refusal, Request, Space, Table};
+///
+/// let mut words = [0; 4];
+/// let mut list = [0; operation_list_words(1)];
+/// let mut table = Table::empty(&mut words);
+/// let space = Space::new(0, 0x1_0000).reserving(0xf000, 0x1000);
+/// let refusal = table.bind(space, Request::map(0xe000, 0x2000, 7, 0), &mut list).unwrap_err();
+/// assert_eq!(refusal, Refusal::Reserved);
+/// assert_eq!(refusal.to_string(), "the range shares a byte with the reservation");
+/// ```
+#[derive(Clone, Copy, Debug, PartialEq, Eq, Hash)]
+#[non_exhaustive]
+pub enum Refusal {
+    /// The space breaks its rules.
+    BadSpace,
+    /// The table's length is 0, not a multiple of four words, or has room for too many mappings.
+    BadTableLength,
+    /// There are fewer operation words than [`operation_list_words`](crate::operation_list_words).
+    ShortOperations,
+    /// The count is above the table's capacity.
+    BadCount,
+    /// A mapping in the table breaks its rules, or overlaps or precedes the one before it.
+    BadMapping {
+        /// The lowest such place, from 0.
+        place: u64,
+    },
+    /// The address, size or offset is not a multiple of a page, or the size is 0.
+    Unaligned,
+    /// The range is not inside the space.
+    OutsideSpace,
+    /// The range shares a byte with the reservation.
+    Reserved,
+    /// A map of object 0 or above [`MAX_OBJECT`](crate::MAX_OBJECT); an unmap with an object or an
+    /// offset.
+    BadObject,
+    /// A map whose offset plus size is above [`LIMIT`](crate::LIMIT).
+    BadOffset,
+    /// There would be more mappings afterwards than the table has room for.
+    NoRoom,
+    /// The record is not [`RECORD_BYTES`](crate::RECORD_BYTES) bytes long.
+    BadRecordLength,
+    /// The op is neither map nor unmap.
+    BadOp,
+    /// The record's flags or pad is not 0.
+    BadFlags,
+}
+
+impl Refusal {
+    /// The refusal's number, as C has it.
+    ///
+    /// ```
+    /// use waylluqen::Refusal;
+    ///
+    /// assert_eq!(Refusal::NoRoom.number(), 11);
+    /// assert_eq!(Refusal::BadMapping { place: 3 }.number(), 5);
+    /// ```
+    pub const fn number(self) -> u32 {
+        match self {
+            Refusal::BadSpace => 1,
+            Refusal::BadTableLength => 2,
+            Refusal::ShortOperations => 3,
+            Refusal::BadCount => 4,
+            Refusal::BadMapping { .. } => 5,
+            Refusal::Unaligned => 6,
+            Refusal::OutsideSpace => 7,
+            Refusal::Reserved => 8,
+            Refusal::BadObject => 9,
+            Refusal::BadOffset => 10,
+            Refusal::NoRoom => 11,
+            Refusal::BadRecordLength => 12,
+            Refusal::BadOp => 13,
+            Refusal::BadFlags => 14,
+        }
+    }
+
+    /// The refusal that an answer's first two words are, if they are one.
+    pub(crate) fn check(number: u64, place: u64) -> Result<(), Refusal> {
+        match number {
+            0 => Ok(()),
+            _ => Err(Refusal::of(number, place)),
+        }
+    }
+
+    #[cold]
+    fn of(number: u64, place: u64) -> Refusal {
+        match number {
+            1 => Refusal::BadSpace,
+            2 => Refusal::BadTableLength,
+            3 => Refusal::ShortOperations,
+            4 => Refusal::BadCount,
+            5 => Refusal::BadMapping { place },
+            6 => Refusal::Unaligned,
+            7 => Refusal::OutsideSpace,
+            8 => Refusal::Reserved,
+            9 => Refusal::BadObject,
+            10 => Refusal::BadOffset,
+            11 => Refusal::NoRoom,
+            12 => Refusal::BadRecordLength,
+            13 => Refusal::BadOp,
+            14 => Refusal::BadFlags,
+            _ => unreachable!("the library is proved to answer no other number"),
+        }
+    }
+}
+
+impl fmt::Display for Refusal {
+    fn fmt(&self, f: &mut fmt::Formatter<'_>) -> fmt::Result {
+        f.write_str(match self {
+            Refusal::BadSpace => "the space breaks its rules",
+            Refusal::BadTableLength => "the table's length is not one that a table has",
+            Refusal::ShortOperations => "there are too few operation words",
+            Refusal::BadCount => "the count is above the table's capacity",
+            Refusal::BadMapping { place } => {
+                return write!(f, "mapping {place} in the table breaks its rules");
+            }
+            Refusal::Unaligned => "an address, size or offset is not a multiple of a page",
+            Refusal::OutsideSpace => "the range is not inside the space",
+            Refusal::Reserved => "the range shares a byte with the reservation",
+            Refusal::BadObject => "the object is not one that can be asked for",
+            Refusal::BadOffset => "the offset plus the size is too high",
+            Refusal::NoRoom => "the table has no room for the mappings afterwards",
+            Refusal::BadRecordLength => "the record is not 40 bytes long",
+            Refusal::BadOp => "the op is neither map nor unmap",
+            Refusal::BadFlags => "flags or pad is not 0",
+        })
+    }
+}
+
+impl core::error::Error for Refusal {}

@@ -1,0 +1,248 @@
+//! A table of mappings in lent words.
+
+use crate::{ffi, Mapping, Operations, Refusal, Request, Space, MAPPING_WORDS};
+
+/// The byte of an object that an address shows.
+///
+/// ```
+/// use waylluqen::{Space, Table, Translation};
+///
+/// let mut words = [0x1000, 0x2000, 7, 0x5000];
+/// let table = Table::with_count(&mut words, 1);
+/// let shown = Translation { object: 7, offset: 0x6008 };
+/// assert_eq!(table.lookup(Space::new(0, 0x1_0000), 0x2008), Ok(Some(shown)));
+/// ```
+#[derive(Clone, Copy, Debug, PartialEq, Eq, Hash)]
+pub struct Translation {
+    /// The object, from 1 to [`MAX_OBJECT`](crate::MAX_OBJECT).
+    pub object: u64,
+    /// The byte's offset in it.
+    pub offset: u64,
+}
+
+/// The mappings of a space, in lent words, and their count.
+///
+/// The mappings stand at the front in ascending order, four words each: address, size, object,
+/// offset. Any words and any count are allowed; each call checks them, and refuses a table that
+/// breaks a rule.
+///
+/// ```
+/// use waylluqen::{operation_list_words, table_words, Request, Space, Table};
+///
+/// let space = Space::new(0, 0x1_0000);
+/// let mut words = [0; table_words(4)];
+/// let mut list = [0; operation_list_words(4)];
+/// let mut table = Table::empty(&mut words);
+/// let _ = table.bind(space, Request::map(0, 0x3000, 7, 0), &mut list)?;
+/// let _ = table.bind(space, Request::unmap(0x1000, 0x1000), &mut list)?;
+/// assert_eq!(table.count(), 2);
+/// assert_eq!(table.lookup(space, 0x1000)?, None);
+/// # Ok::<(), waylluqen::Refusal>(())
+/// ```
+#[derive(Debug)]
+pub struct Table<'a> {
+    words: &'a mut [u64],
+    count: u64,
+}
+
+impl<'a> Table<'a> {
+    /// An empty table: all words become 0.
+    ///
+    /// ```
+    /// let mut words = [9; waylluqen::table_words(2)];
+    /// let table = waylluqen::Table::empty(&mut words);
+    /// assert_eq!((table.count(), table.capacity()), (0, 2));
+    /// assert_eq!(table.words(), [0; 8]);
+    /// ```
+    pub fn empty(words: &'a mut [u64]) -> Table<'a> {
+        words.fill(0);
+        Table { words, count: 0 }
+    }
+
+    /// The table of `count` mappings that the words hold, such as an earlier [`Table`] left them.
+    ///
+    /// ```
+    /// use waylluqen::{Refusal, Space, Table};
+    ///
+    /// let space = Space::new(0, 0x1_0000);
+    /// let mut words = [0x1000, 0x1000, 7, 0, 0x2000, 0x1000, 8, 1];
+    /// assert!(Table::with_count(&mut words, 1).lookup(space, 0).is_ok());
+    ///
+    /// // The offset of the second is not a multiple of a page.
+    /// let refused = Table::with_count(&mut words, 2).lookup(space, 0);
+    /// assert_eq!(refused, Err(Refusal::BadMapping { place: 1 }));
+    /// ```
+    pub fn with_count(words: &'a mut [u64], count: u64) -> Table<'a> {
+        Table { words, count }
+    }
+
+    /// How many mappings there are.
+    ///
+    /// ```
+    /// let mut words = [0; 4];
+    /// assert_eq!(waylluqen::Table::empty(&mut words).count(), 0);
+    /// ```
+    pub fn count(&self) -> u64 {
+        self.count
+    }
+
+    /// How many mappings there is room for.
+    ///
+    /// ```
+    /// let mut words = [0; 32];
+    /// assert_eq!(waylluqen::Table::empty(&mut words).capacity(), 8);
+    /// ```
+    pub fn capacity(&self) -> usize {
+        self.words.len() / MAPPING_WORDS
+    }
+
+    /// The lent words.
+    ///
+    /// ```
+    /// let mut words = [0x1000, 0x2000, 7, 0];
+    /// let table = waylluqen::Table::with_count(&mut words, 1);
+    /// assert_eq!(table.words(), [0x1000, 0x2000, 7, 0]);
+    /// ```
+    pub fn words(&self) -> &[u64] {
+        self.words
+    }
+
+    /// The mappings as they stand, unchecked: no more than the count, and no more than there is
+    /// room for.
+    ///
+    /// ```
+    /// use waylluqen::{Mapping, Table};
+    ///
+    /// let mut words = [0x1000, 0x2000, 7, 0, 0, 0, 0, 0];
+    /// let table = Table::with_count(&mut words, 1);
+    /// assert!(table.mappings().eq([Mapping::from([0x1000, 0x2000, 7, 0])]));
+    /// ```
+    pub fn mappings(&self) -> impl Iterator<Item = Mapping> + '_ {
+        let count = usize::try_from(self.count).unwrap_or(usize::MAX);
+        let mapping = |words: &[u64]| {
+            let words: [u64; MAPPING_WORDS] = words.try_into().ok()?;
+            Some(Mapping::from(words))
+        };
+        let words = self.words.chunks_exact(MAPPING_WORDS).take(count);
+        words.filter_map(mapping)
+    }
+
+    /// Tells what the byte at `address` shows; `None` for one that is in no mapping, also outside
+    /// the space.
+    ///
+    /// # Errors
+    ///
+    /// The first of [`BadSpace`](Refusal::BadSpace), [`BadTableLength`](Refusal::BadTableLength),
+    /// [`BadCount`](Refusal::BadCount) and [`BadMapping`](Refusal::BadMapping) that applies.
+    ///
+    /// ```
+    /// use waylluqen::{Refusal, Space, Table, Translation};
+    ///
+    /// let space = Space::new(0, 0x1_0000);
+    /// let mut words = [0x1000, 0x2000, 7, 0x5000, 0, 0, 0, 0];
+    /// let table = Table::with_count(&mut words, 1);
+    /// let shown = Translation { object: 7, offset: 0x6008 };
+    /// assert_eq!(table.lookup(space, 0x2008), Ok(Some(shown)));
+    /// assert_eq!(table.lookup(space, 0x3000), Ok(None));
+    /// assert_eq!(table.lookup(Space::new(1, 2), 0x3000), Err(Refusal::BadSpace));
+    /// ```
+    pub fn lookup(&self, space: Space, address: u64) -> Result<Option<Translation>, Refusal> {
+        let answer = ffi::lookup(space, self.words, self.count, address);
+        Refusal::check(answer.refusal, answer.place)?;
+        let shown = Translation {
+            object: answer.object,
+            offset: answer.offset,
+        };
+        Ok((answer.mapped != 0).then_some(shown))
+    }
+
+    /// Maps or unmaps a range, and gives the operations for it, which it writes to the lent
+    /// `list`.
+    ///
+    /// A mapping that shares a byte with the range is cut: what is outside the range stays. Each
+    /// page of the range then shows what was asked, and every other page what it showed before.
+    /// All words behind the table's mappings become 0; the list's words behind the operations stay.
+    ///
+    /// # Errors
+    ///
+    /// The first of [`BadOp`](Refusal::BadOp), [`BadSpace`](Refusal::BadSpace),
+    /// [`BadTableLength`](Refusal::BadTableLength), [`ShortOperations`](Refusal::ShortOperations),
+    /// [`BadCount`](Refusal::BadCount), [`BadMapping`](Refusal::BadMapping),
+    /// [`Unaligned`](Refusal::Unaligned), [`OutsideSpace`](Refusal::OutsideSpace),
+    /// [`Reserved`](Refusal::Reserved), [`BadObject`](Refusal::BadObject),
+    /// [`BadOffset`](Refusal::BadOffset) and [`NoRoom`](Refusal::NoRoom) that applies. No word of
+    /// the table or of the list has changed then.
+    ///
+    /// ```
+    /// use waylluqen::{operation_list_words, table_words, Refusal, Request, Space, Table};
+    ///
+    /// let space = Space::new(0, 0x1_0000);
+    /// let mut words = [0; table_words(2)];
+    /// let mut list = [0; operation_list_words(2)];
+    /// let mut table = Table::empty(&mut words);
+    /// let _ = table.bind(space, Request::map(0, 0x3000, 7, 0), &mut list)?;
+    /// let _ = table.bind(space, Request::unmap(0x1000, 0x1000), &mut list)?;
+    /// assert_eq!(table.words(), [0, 0x1000, 7, 0, 0x2000, 0x1000, 7, 0x2000]);
+    ///
+    /// // There is no room for a third.
+    /// let refused = table.bind(space, Request::map(0x4000, 0x1000, 9, 0), &mut list).err();
+    /// assert_eq!(refused, Some(Refusal::NoRoom));
+    /// # Ok::<(), Refusal>(())
+    /// ```
+    pub fn bind<'o>(
+        &mut self,
+        space: Space,
+        request: Request,
+        list: &'o mut [u64],
+    ) -> Result<Operations<'o>, Refusal> {
+        let answer = ffi::bind(space, self.words, self.count, list, request);
+        self.take(answer, list)
+    }
+
+    /// Does what [`bind`](Table::bind) does for a request that comes as a record, as a program
+    /// handed it over; see [`check_request`](crate::check_request).
+    ///
+    /// # Errors
+    ///
+    /// The first of [`BadRecordLength`](Refusal::BadRecordLength), [`BadOp`](Refusal::BadOp) and
+    /// [`BadFlags`](Refusal::BadFlags) that applies, else what [`bind`](Table::bind) gives.
+    ///
+    /// ```
+    /// use waylluqen::{operation_list_words, Mapping, Operation, Refusal, Space, Table};
+    ///
+    /// let space = Space::new(0x10_0000, 0x10_0000);
+    /// let mut words = [0; 4];
+    /// let mut list = [0; operation_list_words(1)];
+    /// let mut table = Table::empty(&mut words);
+    /// let mut record = [0; 40];
+    /// record[8] = 7; // map object 7
+    /// record[18] = 0x10; // at 0x10_0000
+    /// record[33] = 0x10; // one page
+    /// let new = Mapping::from([0x10_0000, 0x1000, 7, 0]);
+    /// assert!(table.bind_record(space, &record, &mut list)?.eq([Operation::Map(new)]));
+    ///
+    /// let refused = table.bind_record(space, &record[1..], &mut list).err();
+    /// assert_eq!(refused, Some(Refusal::BadRecordLength));
+    /// # Ok::<(), Refusal>(())
+    /// ```
+    pub fn bind_record<'o>(
+        &mut self,
+        space: Space,
+        record: &[u8],
+        list: &'o mut [u64],
+    ) -> Result<Operations<'o>, Refusal> {
+        let answer = ffi::bind_record(space, self.words, self.count, list, record);
+        self.take(answer, list)
+    }
+
+    /// Takes the count that an answer gives, and reads the operations that it wrote.
+    fn take<'o>(
+        &mut self,
+        answer: ffi::Answer,
+        list: &'o [u64],
+    ) -> Result<Operations<'o>, Refusal> {
+        Refusal::check(answer.refusal, answer.place)?;
+        self.count = answer.count;
+        Ok(Operations::new(list, answer.operations))
+    }
+}
