@@ -10,6 +10,7 @@ mod tally;
 
 use c_side::CSide;
 use std::env;
+use std::io::{self, Write};
 use std::panic::{self, AssertUnwindSafe};
 use std::process::ExitCode;
 use std::time::{Duration, Instant, SystemTime, UNIX_EPOCH};
@@ -81,12 +82,18 @@ fn run(told: &Told, mut c_side: CSide, tally: &mut Tally) -> Result<(), u64> {
     Err(seed)
 }
 
+/// Prints a line at once. Nobody need read it: `println!` would panic then.
+fn say(line: &str) {
+    let mut out = io::stdout().lock();
+    writeln!(out, "{line}").and_then(|()| out.flush()).ok();
+}
+
 fn main() -> ExitCode {
     let Some(told) = told() else {
         eprintln!("usage: host/soak SECONDS [SEED]");
         return ExitCode::from(2);
     };
-    println!("host/soak: seed {}", told.seed);
+    say(&format!("host/soak: seed {}", told.seed));
     let c_side = match CSide::start(&told.program) {
         Ok(c_side) => c_side,
         Err(error) => {
@@ -100,6 +107,6 @@ fn main() -> ExitCode {
         eprintln!("host/soak: failed; `host/soak 1 {seed}` repeats it");
         return ExitCode::FAILURE;
     }
-    tally.print(told.seed);
+    say(&tally.summary(told.seed));
     ExitCode::SUCCESS
 }

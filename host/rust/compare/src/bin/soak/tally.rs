@@ -62,7 +62,8 @@ impl Tally {
         }
     }
 
-    pub fn print(&self, seed: u64) {
+    /// What a run that passed prints at its end.
+    pub fn summary(&self, seed: u64) -> String {
         let Tally {
             rounds,
             by_numbers,
@@ -80,7 +81,7 @@ impl Tally {
             .zip(refused)
             .map(|(number, times)| format!("{number}: {times}"))
             .collect();
-        println!(
+        format!(
             "host/soak: passed, seed {seed}, {rounds} rounds\n\
              {calls} calls, each made three ways: {by_numbers} requests by numbers, {by_record} by \
              record, {lookups} look-ups, {checks} checks\n\
@@ -88,6 +89,6 @@ impl Tally {
              mapped, {unmapped} not; {passed} checks passed\n\
              refused {}",
             refused.join(", ")
-        );
+        )
     }
 }
