@@ -3,9 +3,9 @@
 use mathlib.Core.Path.{_≡_, refl, ap}
 use mathlib.Core.Bool.{Bool, true, false}
 use mathlib.Core.List.{List, [], _∷_}
-use Prim.Native.Nat.{ℕ, suc, _+_, _≤_, _<_}
+use Prim.Native.Nat.{ℕ, zero, suc, _+_, _≤_, _<_}
 use native.Mathlib.Omega.{arith}
-use lib.ListN.{length, take, drop}
+use lib.ListN.{length, getD, take, drop}
 use Rattle.model.specs.declared.Mapping.{Mapping}
 use Rattle.model.specs.Rows.{choose}
 use Rattle.model.specs.Table.{mappingsIn}
@@ -33,7 +33,7 @@ module _ {p : Mapping → Bool} {ws : List ℕ} {n answer i : ℕ} where
   unfolding firstWhere
   first-end e g = omega (arith, g .is, ap (firstWhere p) (from-end ws n i e))
 
--- ── what stands before it ──
+-- ── its place, and what stands before it ──
 
 module _ (p : Mapping → Bool) where
   pub first-most : (ms : List Mapping) → firstWhere p ms ≤ length ms
@@ -42,6 +42,17 @@ module _ (p : Mapping → Bool) where
   first-most (m ∷ ms) = go (p m) (first-most ms)
     where
       go : (b : Bool) → firstWhere p ms ≤ length ms → choose b 0 (suc (firstWhere p ms)) ≤ suc (length ms)
+      go true ih = omega arith
+      go false ih = omega arith
+
+  -- one that passes is it, or stands behind it
+  pub first-least : (ms : List Mapping) (i : ℕ) (d : Mapping) → p (getD ms i d) ≡ true → firstWhere p ms ≤ i
+  unfolding firstWhere
+  first-least [] i d e = omega arith
+  first-least (m ∷ ms) zero d e = rw (e, choose) (omega arith)
+  first-least (m ∷ ms) (suc i) d e = go (p m) (first-least ms i d e)
+    where
+      go : (b : Bool) → firstWhere p ms ≤ i → choose b 0 (suc (firstWhere p ms)) ≤ suc i
       go true ih = omega arith
       go false ih = omega arith
 

@@ -132,20 +132,23 @@ pub fn first_starting_behind(t: &[u64], from: usize, count: usize, x: u64) -> us
     i
 }
 
-// The place of the first mapping that ends behind the byte address `x`; `count` where none does.
+// The place of the first mapping that ends behind the byte address `x`; `count` where none does. Ends ascend, so each turn halves what is left.
 pub fn first_ending_behind(t: &[u64], count: usize, x: u64) -> usize
     requires { ⌜ Valid (now t) count ⌝ }
     ensures { λ i. ⌜ i ≡ firstWhere (endsBehind x) (mappingsIn count (now (t .entry))) ⌝ }
 {
-    let mut i: usize = 0;
-    while i < count {
-        let m = read_mapping(t, i);
+    let mut lo: usize = 0;
+    let mut hi = count;
+    while lo < hi {
+        let mid = lo + (hi - lo) / 2;
+        let m = read_mapping(t, mid);
         if x < m.address + m.size {
-            return i;
+            hi = mid;
+        } else {
+            lo = mid + 1;
         }
-        i += 1;
     }
-    i
+    lo
 }
 
 // What the byte address `x` shows by one mapping.
@@ -162,16 +165,16 @@ fn shown_by(m: Mapping, x: u64) -> Shown
     Shown::Nothing
 }
 
-// What the byte address `x` shows: no mapping but the last that starts at or before it can have it.
+// What the byte address `x` shows: no mapping but the first that ends behind it can have it.
 pub fn translate(t: &[u64], count: usize, x: u64) -> Shown
     requires { ⌜ Valid (now t) count ⌝ }
     ensures { λ r. ⌜ r ≡ translate (mappingsIn count (now (t .entry))) x ⌝ }
 {
-    let above = first_starting_behind(t, 0, count, x);
-    if above == 0 {
+    let i = first_ending_behind(t, count, x);
+    if i == count {
         return Shown::Nothing;
     }
-    shown_by(read_mapping(t, above - 1), x)
+    shown_by(read_mapping(t, i), x)
 }
 
 // One mapping more behind at most two.

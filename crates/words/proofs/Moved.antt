@@ -1,8 +1,8 @@
 -- Laws of a run that is moved inside a list: several moves that are one.
 -- Assumes nothing.
-use mathlib.Core.Path.{_≡_, refl}
+use mathlib.Core.Path.{_≡_, refl, _∙_}
 use mathlib.Core.List.{List}
-use Prim.Native.Nat.{ℕ, _+_, _≤_, _<_}
+use Prim.Native.Nat.{ℕ, _+_, _-_, _≤_, _<_}
 use native.Mathlib.Omega.{arith}
 use lib.ListN.{length, getD, set, take, drop, length-drop, take-append-drop}
 use lib.Seq.{length-take-le, take-add, drop-drop, getD-drop}
@@ -70,3 +70,28 @@ moved-up ws from to j k h r =
     let m : length ys ≡ k = length-part ws from k (omega arith) in
     let b = stored-before ws to xs ys (omega arith) in
     rw (part-stored ws (to + k) xs from k (omega arith) (omega arith), take-add k j (drop from ws), drop-drop k from ws) (rw m at b)
+
+-- k words more of n, of which those from j on were moved
+pub moved-more : (ws : List ℕ) (from to n j k : ℕ) → k ≤ j → j ≤ n → from ≤ to → to + n ≤ length ws
+    → moved (moved ws (from + j) (to + j) (n - j)) (from + (j - k)) (to + (j - k)) k ≡ moved ws (from + (j - k)) (to + (j - k)) (n - (j - k))
+moved-more ws from to n j k h l o r =
+    let f : from + (j - k) + k ≡ from + j = omega arith in
+    let t : to + (j - k) + k ≡ to + j = omega arith in
+    let m : n - (j - k) ≡ k + (n - j) = omega arith in
+    rw m (rw (f, t) at (moved-up ws (from + (j - k)) (to + (j - k)) (n - j) k (omega arith) (omega arith)))
+
+-- ── sixteen words, four at a time ──
+
+pub four-down : (ws a b c d : List ℕ) (from to : ℕ) → to ≤ from → from + 16 ≤ length ws → a ≡ moved ws from to 4 → b ≡ moved a (from + 4) (to + 4) 4
+    → c ≡ moved b (from + 8) (to + 8) 4 → d ≡ moved c (from + 12) (to + 12) 4 → d ≡ moved ws from to 16
+four-down ws a b c d from to h k p q r s =
+    let e : b ≡ moved ws from to 8 = q ∙ rw p (moved-down ws from to 4 4 h (omega arith)) in
+    let f : c ≡ moved ws from to 12 = r ∙ rw e (moved-down ws from to 8 4 h (omega arith)) in
+    s ∙ rw f (moved-down ws from to 12 4 h (omega arith))
+
+pub four-up : (ws a b c d : List ℕ) (from to : ℕ) → from ≤ to → to + 16 ≤ length ws → a ≡ moved ws (from + 12) (to + 12) 4
+    → b ≡ moved a (from + 8) (to + 8) 4 → c ≡ moved b (from + 4) (to + 4) 4 → d ≡ moved c from to 4 → d ≡ moved ws from to 16
+four-up ws a b c d from to h k p q r s =
+    let e : b ≡ moved ws (from + 8) (to + 8) 8 = q ∙ rw p (moved-more ws from to 16 12 4 (omega arith) (omega arith) h k) in
+    let f : c ≡ moved ws (from + 4) (to + 4) 12 = r ∙ rw e (moved-more ws from to 16 8 4 (omega arith) (omega arith) h k) in
+    s ∙ rw f (moved-up ws from to 12 4 h (omega arith))

@@ -31,6 +31,28 @@ fn copy_four(t: &mut [u64], from: usize, to: usize)
     t[to + 3] = d;
 }
 
+// Copies sixteen words, where `to` is not above `from`: from the first four to the last.
+fn down_sixteen(t: &mut [u64], from: usize, to: usize)
+    requires { ⌜ (to ≤ from) × (from + 16 ≤ length (now t)) ⌝ }
+    ensures { λ _. ⌜ now (t .exit) ≡ moved (now (t .entry)) from to 16 ⌝ }
+{
+    copy_four(t, from, to);
+    copy_four(t, from + 4, to + 4);
+    copy_four(t, from + 8, to + 8);
+    copy_four(t, from + 12, to + 12)
+}
+
+// The same where `to` is not below `from`: from the last four to the first.
+fn up_sixteen(t: &mut [u64], from: usize, to: usize)
+    requires { ⌜ (from ≤ to) × (to + 16 ≤ length (now t)) ⌝ }
+    ensures { λ _. ⌜ now (t .exit) ≡ moved (now (t .entry)) from to 16 ⌝ }
+{
+    copy_four(t, from + 12, to + 12);
+    copy_four(t, from + 8, to + 8);
+    copy_four(t, from + 4, to + 4);
+    copy_four(t, from, to)
+}
+
 // Copies the `n` words from `from` on to `to` on, where `to` is not above `from`: from the first word to the last.
 fn move_down(t: &mut [u64], from: usize, to: usize, n: usize)
     requires { ⌜ (to ≤ from) × (from + n ≤ length (now t)) ⌝ }
@@ -38,7 +60,10 @@ fn move_down(t: &mut [u64], from: usize, to: usize, n: usize)
 {
     let mut j: usize = 0;
     while j < n {
-        if 4 <= n - j {
+        if 16 <= n - j {
+            down_sixteen(t, from + j, to + j);
+            j += 16;
+        } else if 4 <= n - j {
             copy_four(t, from + j, to + j);
             j += 4;
         } else {
@@ -55,7 +80,10 @@ fn move_up(t: &mut [u64], from: usize, to: usize, n: usize)
 {
     let mut j = n;
     while 0 < j {
-        if 4 <= j {
+        if 16 <= j {
+            j -= 16;
+            up_sixteen(t, from + j, to + j);
+        } else if 4 <= j {
             j -= 4;
             copy_four(t, from + j, to + j);
         } else {

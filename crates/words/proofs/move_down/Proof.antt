@@ -22,14 +22,14 @@ loop-holds c = (search needs, search needs, sym (moved-none (c .before .args .t 
 sub-if1 : tie.Need-sub-if1 Inv-loop μ-loop
 sub-if1 c = search needs
 
-add-copy-four : tie.Need-add-copy-four Inv-loop μ-loop
-add-copy-four c = search needs
+add-down-sixteen : tie.Need-add-down-sixteen Inv-loop μ-loop
+add-down-sixteen c = search needs
 
-add-copy-four-2 : tie.Need-add-copy-four-2 Inv-loop μ-loop
-add-copy-four-2 c = search needs
+add-down-sixteen-2 : tie.Need-add-down-sixteen-2 Inv-loop μ-loop
+add-down-sixteen-2 c = search needs
 
-copy-four-requires : tie.Need-copy-four-requires Inv-loop μ-loop
-copy-four-requires c κs = search needs
+down-sixteen-requires : tie.Need-down-sixteen-requires Inv-loop μ-loop
+down-sixteen-requires c κs = search needs
 
 add-j : tie.Need-add-j Inv-loop μ-loop
 add-j c = search needs
@@ -41,6 +41,33 @@ loop-again : tie.Need-loop-again Inv-loop μ-loop
 loop-again c =
     let a = c .before .before .before .before .before .before .before .before .args in
     let l = c .before .before .before .before .before .before .loop in (
+      search needs,
+      search needs,
+      c .before .before .down-sixteen .ensures ∙ rw (l .inv .2) (moved-down (a .t .now) (a .from) (a .to) (l .j) 16 (omega arith) (omega arith)),
+    )
+
+sub-if2 : tie.Need-sub-if2 Inv-loop μ-loop
+sub-if2 c = search needs
+
+add-copy-four : tie.Need-add-copy-four Inv-loop μ-loop
+add-copy-four c = search needs
+
+add-copy-four-2 : tie.Need-add-copy-four-2 Inv-loop μ-loop
+add-copy-four-2 c = search needs
+
+copy-four-requires : tie.Need-copy-four-requires Inv-loop μ-loop
+copy-four-requires c κs = search needs
+
+add-j-2 : tie.Need-add-j-2 Inv-loop μ-loop
+add-j-2 c = search needs
+
+loop-less-2 : tie.Need-loop-less-2 Inv-loop μ-loop
+loop-less-2 c = search needs
+
+loop-again-2 : tie.Need-loop-again-2 Inv-loop μ-loop
+loop-again-2 c =
+    let a = c .before .before .before .before .before .before .before .before .before .args in
+    let l = c .before .before .before .before .before .before .before .loop in (
       search needs,
       search needs,
       c .before .before .copy-four .ensures ∙ rw (l .inv .2) (moved-down (a .t .now) (a .from) (a .to) (l .j) 4 (omega arith) (omega arith)),
@@ -64,16 +91,16 @@ mul-t-2 c = search needs
 slice-write-t : tie.Need-slice-write-t Inv-loop μ-loop
 slice-write-t c = search needs
 
-add-j-2 : tie.Need-add-j-2 Inv-loop μ-loop
-add-j-2 c = search needs
+add-j-3 : tie.Need-add-j-3 Inv-loop μ-loop
+add-j-3 c = search needs
 
-loop-less-2 : tie.Need-loop-less-2 Inv-loop μ-loop
-loop-less-2 c = search needs
+loop-less-3 : tie.Need-loop-less-3 Inv-loop μ-loop
+loop-less-3 c = search needs
 
-loop-again-2 : tie.Need-loop-again-2 Inv-loop μ-loop
-loop-again-2 c =
-    let a = c .before .before .before .before .before .args in
-    let l = c .before .before .before .loop in (
+loop-again-3 : tie.Need-loop-again-3 Inv-loop μ-loop
+loop-again-3 c =
+    let a = c .before .before .before .before .before .before .args in
+    let l = c .before .before .before .before .loop in (
       search needs,
       simp length-set (l .inv .1),
       moved-word (l .t) (a .from + l .j) (a .to + l .j) (omega arith) (omega arith)
@@ -96,20 +123,27 @@ move-down-spec =
     μ-loop
     loop-holds
     sub-if1
-    add-copy-four
-    add-copy-four-2
-    copy-four-requires
+    add-down-sixteen
+    add-down-sixteen-2
+    down-sixteen-requires
     add-j
     loop-less
     loop-again
+    sub-if2
+    add-copy-four
+    add-copy-four-2
+    copy-four-requires
+    add-j-2
+    loop-less-2
+    loop-again-2
     add-t
     mul-t
     slice-read-t
     add-t-2
     mul-t-2
     slice-write-t
-    add-j-2
-    loop-less-2
-    loop-again-2
+    add-j-3
+    loop-less-3
+    loop-again-3
     same-length
     returns)

@@ -1,12 +1,11 @@
 -- `words::move_up` meets its contract.
 -- Assumes nothing.
 use mathlib.Core.Path.{_≡_, sym, _∙_}
-use mathlib.Core.List.{List}
-use Prim.Native.Nat.{ℕ, _+_, _-_, _≤_}
+use Prim.Native.Nat.{_+_, _-_, _≤_}
 use native.Mathlib.Omega.{arith}
 use lib.ListN.{length, length-set}
 use Rattle.words.specs.Words.{moved}
-use Rattle.words.proofs.Moved.{moved-none, moved-word, moved-up}
+use Rattle.words.proofs.Moved.{moved-none, moved-word, moved-more}
 use borrow.Author.Needs.{needs}
 use Rattle.words.proofs.move_up.Statement.{statement}
 use Rattle.words.proofs.move_up.Tie as tie
@@ -17,20 +16,33 @@ Inv-loop t₀ from to n j₀ t j = (j ≤ n) × (length t ≡ length t₀) × (t
 abbrev μ-loop : tie.MeasureT-loop
 μ-loop t₀ from to n j₀ t j = j
 
--- k words more of n, of which those from j on were moved
-moved-more : (ws : List ℕ) (from to n j k : ℕ) → k ≤ j → j ≤ n → from ≤ to → to + n ≤ length ws
-    → moved (moved ws (from + j) (to + j) (n - j)) (from + (j - k)) (to + (j - k)) k ≡ moved ws (from + (j - k)) (to + (j - k)) (n - (j - k))
-moved-more ws from to n j k h l o r =
-    let f : from + (j - k) + k ≡ from + j = omega arith in
-    let t : to + (j - k) + k ≡ to + j = omega arith in
-    let m : n - (j - k) ≡ k + (n - j) = omega arith in
-    rw m (rw (f, t) at (moved-up ws (from + (j - k)) (to + (j - k)) (n - j) k (omega arith) (omega arith)))
-
 loop-holds : tie.Need-loop-holds Inv-loop μ-loop
 loop-holds c =
     let a = c .before .args in
     let e : a .n - a .n ≡ 0 = omega arith in
     (search needs, search needs, rw e (sym (moved-none (a .t .now) (a .from + a .n) (a .to + a .n))))
+
+add-up-sixteen : tie.Need-add-up-sixteen Inv-loop μ-loop
+add-up-sixteen c = search needs
+
+add-up-sixteen-2 : tie.Need-add-up-sixteen-2 Inv-loop μ-loop
+add-up-sixteen-2 c = search needs
+
+up-sixteen-requires : tie.Need-up-sixteen-requires Inv-loop μ-loop
+up-sixteen-requires c κs = search needs
+
+loop-less : tie.Need-loop-less Inv-loop μ-loop
+loop-less c = search needs
+
+loop-again : tie.Need-loop-again Inv-loop μ-loop
+loop-again c =
+    let a = c .before .before .before .before .before .before .before .before .args in
+    let l = c .before .before .before .before .before .before .loop in (
+      search needs,
+      search needs,
+      c .before .before .up-sixteen .ensures
+          ∙ rw (l .inv .2) (moved-more (a .t .now) (a .from) (a .to) (a .n) (l .j) 16 (omega arith) (omega arith) (omega arith) (omega arith)),
+    )
 
 add-copy-four : tie.Need-add-copy-four Inv-loop μ-loop
 add-copy-four c = search needs
@@ -41,13 +53,13 @@ add-copy-four-2 c = search needs
 copy-four-requires : tie.Need-copy-four-requires Inv-loop μ-loop
 copy-four-requires c κs = search needs
 
-loop-less : tie.Need-loop-less Inv-loop μ-loop
-loop-less c = search needs
+loop-less-2 : tie.Need-loop-less-2 Inv-loop μ-loop
+loop-less-2 c = search needs
 
-loop-again : tie.Need-loop-again Inv-loop μ-loop
-loop-again c =
-    let a = c .before .before .before .before .before .before .before .before .args in
-    let l = c .before .before .before .before .before .before .loop in (
+loop-again-2 : tie.Need-loop-again-2 Inv-loop μ-loop
+loop-again-2 c =
+    let a = c .before .before .before .before .before .before .before .before .before .args in
+    let l = c .before .before .before .before .before .before .before .loop in (
       search needs,
       search needs,
       c .before .before .copy-four .ensures
@@ -75,13 +87,13 @@ mul-t-2 c = search needs
 slice-write-t : tie.Need-slice-write-t Inv-loop μ-loop
 slice-write-t c = search needs
 
-loop-less-2 : tie.Need-loop-less-2 Inv-loop μ-loop
-loop-less-2 c = search needs
+loop-less-3 : tie.Need-loop-less-3 Inv-loop μ-loop
+loop-less-3 c = search needs
 
-loop-again-2 : tie.Need-loop-again-2 Inv-loop μ-loop
-loop-again-2 c =
-    let a = c .before .before .before .before .before .args in
-    let l = c .before .before .before .loop in (
+loop-again-3 : tie.Need-loop-again-3 Inv-loop μ-loop
+loop-again-3 c =
+    let a = c .before .before .before .before .before .before .args in
+    let l = c .before .before .before .before .loop in (
       search needs,
       simp length-set (l .inv .1),
       moved-word (l .t) (a .from + (l .j - 1)) (a .to + (l .j - 1)) (omega arith) (omega arith)
@@ -107,11 +119,16 @@ move-up-spec =
     Inv-loop
     μ-loop
     loop-holds
+    add-up-sixteen
+    add-up-sixteen-2
+    up-sixteen-requires
+    loop-less
+    loop-again
     add-copy-four
     add-copy-four-2
     copy-four-requires
-    loop-less
-    loop-again
+    loop-less-2
+    loop-again-2
     sub-j
     add-t
     mul-t
@@ -119,7 +136,7 @@ move-up-spec =
     add-t-2
     mul-t-2
     slice-write-t
-    loop-less-2
-    loop-again-2
+    loop-less-3
+    loop-again-3
     same-length
     returns)

@@ -1,139 +1,163 @@
-//! All that are timed must give the model's answers, also to damaged tables.
+//! All that are timed must give the model's answers and leave the model's words, also on damaged
+//! tables; else there is nothing to compare.
 
-use crate::contender::{Answer, FOLDED, LIBRARY, PLAIN};
-use crate::input::{inputs, Input, SIZES};
-use waylluqen::Table;
-use waylluqen_compare::library;
-use waylluqen_model as model;
-use waylluqen_model::PAGE;
+use crate::line::{lines, Call, Line};
+use crate::manager::{contenders, lent, Bound, Contender, Grant, Shown, TREE};
+use waylluqen_compare::library::{self, change_table, write_operations};
+use waylluqen_compare::near::{disturb, near_record, widen};
+use waylluqen_compare::tables::{any_address, good_table, some_operation_words, Table};
+use waylluqen_model::random::Random;
+use waylluqen_model::{self as model, MAPPING_WORDS, MOST_MAPPINGS};
 
-fn model_answer(input: &Input, words: &[u64], count: u64, address: u64) -> Answer {
-    let space = model::Space {
-        start: input.space.start,
-        size: input.space.size,
-        reserved_start: input.space.reserved_start,
-        reserved_size: input.space.reserved_size,
-    };
-    library::shown(model::lookup(&space, words, count, address))
+/// Random tables with a request and some look-ups.
+const RANDOM_TABLES: u64 = 3000;
+const SEED: u64 = 8;
+
+fn answer(bound: &library::Bound) -> Bound {
+    let grant = bound.as_ref().map_err(|refused| library::refusal(*refused));
+    grant.map(|grant| Grant {
+        operations: grant.operations.len() as u64,
+        count: grant.count,
+    })
 }
 
-fn compare(input: &Input, words: &[u64], count: u64, address: u64) {
-    let expected = model_answer(input, words, count, address);
-    let mut words = words.to_vec();
-    let table = Table::with_count(&mut words, count);
-    for contender in PLAIN.iter().chain([&LIBRARY, &FOLDED]) {
-        let answer = (contender.lookup)(input.space, &table, address);
+/// Whether a map can hold the table: its addresses ascend, and behind its mappings are zeros.
+fn has_tree(table: &Table) -> bool {
+    let Some(words) = usize::try_from(table.count)
+        .ok()
+        .and_then(|count| count.checked_mul(MAPPING_WORDS))
+    else {
+        return false;
+    };
+    let Some((mappings, behind)) = table.words.split_at_checked(words) else {
+        return false;
+    };
+    let addresses = mappings.iter().step_by(MAPPING_WORDS);
+    addresses.is_sorted_by(|one, next| one < next) && behind.iter().all(|&word| word == 0)
+}
+
+fn contenders_for(table: &Table) -> impl Iterator<Item = &'static Contender> {
+    lent().chain(has_tree(table).then_some(&TREE))
+}
+
+/// A request to each contender that can have the table, with words behind the list's operations.
+fn compare_bind(table: &Table, request: &model::Request, list_words: usize) {
+    let Table {
+        space,
+        words,
+        count,
+    } = table;
+    let expected = model::bind(space, words, *count, list_words, request);
+    let mut expected_words = words.clone();
+    change_table(&mut expected_words, &expected);
+    let mut expected_list = vec![SEED; list_words];
+    write_operations(&mut expected_list, &expected);
+    let expected = answer(&expected);
+    let expected_count = expected.map_or(*count, |grant| grant.count);
+    for contender in contenders_for(table) {
+        let name = contender.name;
+        let mut manager = (contender.begin)(words, *count);
+        let mut list = vec![SEED; list_words];
+        let given = library::request(request);
+        let answer = manager.bind(library::space(space), given, &mut list);
+        assert_eq!(answer, expected, "{name}, {request:x?}");
+        let (words, count) = manager.table();
+        assert!(words == expected_words, "{name}'s table, {request:x?}");
+        assert_eq!(count, expected_count, "{name}, {request:x?}");
+        assert!(list == expected_list, "{name}'s operations, {request:x?}");
+    }
+}
+
+fn compare_lookup(table: &Table, address: u64) -> Shown {
+    let Table {
+        space,
+        words,
+        count,
+    } = table;
+    let expected = library::shown(model::lookup(space, words, *count, address));
+    for contender in contenders_for(table) {
+        let mut manager = (contender.begin)(words, *count);
+        let answer = manager.lookup(library::space(space), address);
         assert_eq!(answer, expected, "{}, address {address:#x}", contender.name);
     }
+    expected
 }
 
-/// Values for a word: beside the present one, at the limits, and such that a sum wraps.
-fn other_values(present: u64) -> Vec<u64> {
-    let mut values: Vec<u64> = (0..64).step_by(3).map(|bit| present ^ (1 << bit)).collect();
-    for delta in [1, PAGE, 8 * PAGE, 1 << 32, 1 << 48] {
-        values.push(present.wrapping_add(delta));
-        values.push(present.wrapping_sub(delta));
+/// A random table, most of them good, with a request near its mappings and addresses in it.
+fn compare_random(random: &mut Random) {
+    let largest = random.pick(&[8, 40, MOST_MAPPINGS as u64]);
+    let good = good_table(random, largest);
+    let spare = random.below(3) as usize;
+    let room = MOST_MAPPINGS - good.mappings.len();
+    let mut table = Table {
+        space: good.space,
+        words: good.words(random, spare.min(room)),
+        count: good.mappings.len() as u64,
+    };
+    if random.once_in(2) {
+        table.words[good.mappings.len() * MAPPING_WORDS..].fill(0);
     }
-    let below_0 = |pages: u64| 0u64.wrapping_sub(pages * PAGE);
-    values.extend([0, 1, 1 << 32, (1 << 32) - 1, 1 << 48, u64::MAX]);
-    values.extend([below_0(1), below_0(2), below_0(3)]);
-    values
+    let mut record = near_record(random, &good);
+    disturb(random, &good, &mut table, &mut record);
+    let mut request = record.request();
+    if random.once_in(20) {
+        widen(random, &mut request);
+    }
+    let list_words = some_operation_words(random, table.words.len());
+    compare_bind(&table, &request, list_words);
+    for _ in 0..4 {
+        let _ = compare_lookup(&table, any_address(random, &good));
+    }
 }
 
-/// Every byte beside an edge of a mapping, and addresses outside.
-fn compare_addresses(input: &Input) {
-    let words = &input.words;
-    for mapping in words.chunks_exact(4) {
-        let (start, end) = (mapping[0], mapping[0] + mapping[1]);
-        for address in [start - 1, start, start + 1, end - 1, end, end + 1] {
-            compare(input, words, input.mappings, address);
+/// What is timed itself: every call is granted or finds a mapping, and the last leaves the table as
+/// it was.
+fn compare_line(line: &Line) {
+    let start = &line.table;
+    let mut table = start.clone();
+    for call in &line.calls {
+        match *call {
+            Call::Lookup(address) => {
+                let shown = compare_lookup(&table, address);
+                assert!(matches!(shown, Ok(Some(_))), "{}", line.name());
+            }
+            Call::Bind(given) => {
+                let request = model::Request {
+                    op: given.op,
+                    address: given.address,
+                    size: given.size,
+                    object: given.object,
+                    offset: given.offset,
+                };
+                let list_words = line.list().len();
+                compare_bind(&table, &request, list_words);
+                let Table {
+                    space,
+                    words,
+                    count,
+                } = &mut table;
+                let bound = model::bind(space, words, *count, list_words, &request);
+                *count = bound.as_ref().expect("is granted").count;
+                change_table(words, &bound);
+            }
         }
     }
-    for address in [0, 1 << 48, u64::MAX, input.space.reserved_start] {
-        compare(input, words, input.mappings, address);
-    }
+    assert!(table.words == start.words && table.count == start.count);
+    assert_eq!(contenders_for(start).count(), contenders().len());
 }
 
-fn compare_damaged(input: &Input) {
-    let mut words = input.words.clone();
-    for at in 0..words.len() {
-        let good = words[at];
-        for other in other_values(good) {
-            words[at] = other;
-            compare(input, &words, input.mappings, input.address);
-        }
-        words[at] = good;
+/// Panics where an answer or a word is another than the model's.
+pub fn assert_equal() {
+    for line in lines() {
+        compare_line(&line);
     }
-}
-
-fn compare_lengths_and_counts(input: &Input) {
-    let words = &input.words;
-    for length in [0, 1, 3, 4, 5, 8, words.len() - 1, words.len()] {
-        let capacity = length as u64 / 4;
-        for count in [
-            0,
-            1,
-            capacity,
-            capacity + 1,
-            length as u64,
-            1 << 62,
-            u64::MAX,
-        ] {
-            compare(input, &words[..length], count, input.address);
-        }
+    let mut random = Random::new(SEED);
+    for _ in 0..RANDOM_TABLES {
+        compare_random(&mut random);
     }
-    let longer = [&words[..], &[0; 2048]].concat();
-    for length in [2044, 2047, 2048, 2049, 2052] {
-        compare(input, &longer[..length], input.mappings, input.address);
-    }
-}
-
-/// Every number of the space at another value.
-fn compare_spaces() {
-    let [mut input, ..] = inputs(16);
-    let good = input.space;
-    let mut numbers = [
-        good.start,
-        good.size,
-        good.reserved_start,
-        good.reserved_size,
-    ];
-    for at in 0..numbers.len() {
-        let before = numbers[at];
-        for other in other_values(before) {
-            numbers[at] = other;
-            [
-                input.space.start,
-                input.space.size,
-                input.space.reserved_start,
-                input.space.reserved_size,
-            ] = numbers;
-            compare(&input, &input.words, input.mappings, input.address);
-        }
-        numbers[at] = before;
-    }
-}
-
-/// Panics where an answer is another than the model's.
-pub fn assert_equal_answers() {
-    for mappings in SIZES {
-        let [first, middle, last] = inputs(mappings);
-        for input in [&first, &middle, &last] {
-            let answer = model_answer(input, &input.words, mappings, input.address);
-            assert!(
-                matches!(answer, Ok(Some(_))),
-                "what is timed finds a mapping"
-            );
-            compare(input, &input.words, mappings, input.address);
-            compare_lengths_and_counts(input);
-        }
-        compare_addresses(&middle);
-        compare_damaged(&last);
-    }
-    compare_spaces();
 }
 
 #[test]
-fn equal_answers() {
-    assert_equal_answers();
+fn equal_answers_and_words() {
+    assert_equal();
 }

@@ -1,110 +1,56 @@
-//! Times the library's look-up beside plain Rust that gives the same answers.
-//!
-//! Without a word it prints the times as a table. `names` prints the table's columns and lines,
-//! and `count NAME MAPPINGS WHICH` makes one call, for a tool that counts instructions.
+//! Times the library's calls beside plain Rust that gives the same answers and leaves the same
+//! words, and the script program beside the library. `host/bench` runs it.
+
+#![forbid(unsafe_code)]
 
 mod agree;
-mod contender;
-mod input;
+mod count;
+mod cut;
+mod line;
+mod manager;
 mod plain;
+mod report;
+mod rules;
+mod script;
 mod timing;
+mod tree;
 
-use contender::{Contender, FOLDED, LIBRARY, PLAIN};
-use input::{inputs, Input, SIZES};
-use std::hint::black_box;
-use timing::{measure, Spread, Times};
-use waylluqen::Table;
+use std::env;
+use std::path::Path;
+use std::process::ExitCode;
 
-/// The library first, the folded one last.
-fn contenders() -> Vec<&'static Contender> {
-    [&LIBRARY]
-        .into_iter()
-        .chain(&PLAIN)
-        .chain([&FOLDED])
-        .collect()
+/// Where what is written goes; `host/bench` makes it.
+const FOLDER: &str = "BENCH_FOLDER";
+
+fn print_all(folder: &Path) -> Result<(), String> {
+    agree::assert_equal();
+    let (contenders, lines) = (manager::contenders(), line::lines());
+    let counts = count::count(&contenders, &lines, &folder.join("counts"));
+    let times = timing::measure(&contenders, &lines);
+    report::print_calls(&contenders, &lines, &times, counts.as_deref());
+    let measured = script::measure(&folder.join("million.script"));
+    report::print_script(&measured.map_err(|error| format!("the script program: {error}"))?);
+    Ok(())
 }
 
-fn names() -> Vec<&'static str> {
-    contenders()
-        .iter()
-        .map(|contender| contender.name)
-        .collect()
-}
-
-fn all_inputs() -> Vec<Input> {
-    SIZES.into_iter().flat_map(inputs).collect()
-}
-
-/// The plain version with the lowest median.
-fn quickest_plain(times: &Times) -> usize {
-    let median = |&at: &usize| times.of_call(at).median;
-    (1..=PLAIN.len())
-        .min_by(|one, other| median(one).total_cmp(&median(other)))
-        .expect("there is a plain version")
-}
-
-fn print_line(input: &Input, times: &Times) {
-    let names = names();
-    let medians: Vec<String> = (0..names.len())
-        .map(|at| format!("{:.1}", times.of_call(at).median))
-        .collect();
-    let quickest = quickest_plain(times);
-    let Spread { low, median, high } = times.ratio(0, quickest);
-    println!(
-        "| {} | {} | {} | {median:.2} ({}) | {low:.2} to {high:.2} | {:.2} |",
-        input.mappings,
-        input.which,
-        medians.join(" | "),
-        names[quickest],
-        times.ratio(0, names.len() - 1).median
-    );
-}
-
-fn print_times() {
-    let columns = names().join(" | ");
-    println!(
-        "| mappings | address in | {columns} | library / quickest plain | 8 of 10 rounds | library / folded |"
-    );
-    println!("|---|---|{}---|---|---|", "---|".repeat(names().len()));
-    let inputs = all_inputs();
-    for (input, times) in inputs.iter().zip(measure(&contenders(), &inputs)) {
-        print_line(input, &times);
-    }
-}
-
-fn print_names() {
-    println!("{}", names().join(" "));
-    for input in all_inputs() {
-        println!("{} {}", input.mappings, input.which);
-    }
-}
-
-fn call_once(name: &str, mappings: &str, which: &str) {
-    let contenders = contenders();
-    let contender = contenders.iter().find(|contender| contender.name == name);
-    let inputs = all_inputs();
-    let input = inputs
-        .iter()
-        .find(|input| input.mappings.to_string() == mappings && input.which == which);
-    let (Some(contender), Some(input)) = (contender, input) else {
-        panic!("there is no line or column {name} {mappings} {which}");
-    };
-    let mut words = input.words.clone();
-    let table = Table::with_count(&mut words, input.mappings);
-    let answer = black_box(contender.lookup)(input.space, &table, input.address);
-    let _ = black_box(answer);
-}
-
-fn main() {
-    let words: Vec<String> = std::env::args().skip(1).collect();
+fn main() -> ExitCode {
+    let words: Vec<String> = env::args().skip(1).collect();
     let words: Vec<&str> = words.iter().map(String::as_str).collect();
-    match words[..] {
-        [] => {
-            agree::assert_equal_answers();
-            print_times();
+    match (&words[..], env::var_os(FOLDER)) {
+        ([count::COUNT], _) => {
+            count::make_counted_calls(&manager::contenders(), &line::lines());
+            ExitCode::SUCCESS
         }
-        ["names"] => print_names(),
-        ["count", name, mappings, which] => call_once(name, mappings, which),
-        _ => panic!("usage: waylluqen-bench [names | count NAME MAPPINGS WHICH]"),
+        ([], Some(folder)) => match print_all(Path::new(&folder)) {
+            Ok(()) => ExitCode::SUCCESS,
+            Err(error) => {
+                eprintln!("waylluqen-bench: {error}");
+                ExitCode::FAILURE
+            }
+        },
+        _ => {
+            eprintln!("waylluqen-bench: run host/bench");
+            ExitCode::from(2)
+        }
     }
 }

@@ -1,163 +1,117 @@
-//! The same look-up in plain safe Rust, without proofs: 64-bit numbers, the same lent slice, the
-//! same rules, the same answers. Written in three ways, since only a clock knows the quickest, and
-//! in a fourth that no longer tests mapping by mapping.
+//! The same calls in plain safe Rust, without proofs, on the same lent words. The check and the
+//! search are written in four ways, since only a clock knows the quickest.
 
-use crate::contender::Answer;
-use waylluqen::{Refusal, Space, Table, Translation};
+use crate::cut::{cut, lower_rest, map_operation, new_mapping, upper_rest};
+use crate::manager::{Bound, Grant, Manager, Shown};
+use crate::rules::{bad_mapping, bounds, capacity, check_list, check_request};
+use crate::rules::{checked_end, masked_end, Bounds, Mapping};
+use std::marker::PhantomData;
+use std::ops::Range;
+use waylluqen::{Refusal, Request, Space, Translation, LIMIT, MAPPING_WORDS, MAX_OBJECT};
+use waylluqen::{OPERATION_WORDS, PAGE_SIZE};
 
-const PAGE: u64 = 4096;
-const LIMIT: u64 = 1 << 48;
-const HIGHEST_OBJECT: u64 = (1 << 32) - 1;
-const MAPPING_WORDS: usize = 4;
-const MOST_WORDS: usize = 512 * MAPPING_WORDS;
-
-/// Address, size, object, offset.
-type Mapping = [u64; MAPPING_WORDS];
-
-/// The ends of a space that keeps its rules, and of its reservation.
-#[derive(Clone, Copy)]
-struct Bounds {
-    start: u64,
-    end: u64,
-    reserved_start: u64,
-    reserved_end: u64,
+/// A way to check the mappings of a table, and to find those that have a byte from `first` to
+/// `last`.
+pub trait Way {
+    fn hits(
+        bounds: &Bounds,
+        mappings: &[Mapping],
+        first: u64,
+        last: u64,
+    ) -> Result<Range<usize>, Refusal>;
 }
 
-fn bounds(space: Space) -> Option<Bounds> {
-    let all = space.start | space.size | space.reserved_start | space.reserved_size;
-    if !all.is_multiple_of(PAGE) || space.size == 0 {
-        return None;
-    }
-    let end = space.start.checked_add(space.size)?;
-    let reserved_end = space.reserved_start.checked_add(space.reserved_size)?;
-    let reservation_holds = if space.reserved_size == 0 {
-        space.reserved_start == 0
-    } else {
-        space.start <= space.reserved_start && reserved_end <= end
-    };
-    (end <= LIMIT && reservation_holds).then_some(Bounds {
-        start: space.start,
-        end,
-        reserved_start: space.reserved_start,
-        reserved_end,
-    })
+/// Checks with a branch for each rule, then goes through the table once more.
+pub struct Checked;
+
+/// Checks with a branch for each mapping, then searches by halves.
+pub struct Masked;
+
+/// Checks as `Masked` does, and finds the places in the same pass.
+pub struct Merged;
+
+/// Collects the broken rules of all mappings, and looks for the place only if there are any.
+pub struct Folded;
+
+/// The places by halves, in a table that keeps its rules.
+fn find(mappings: &[Mapping], first: u64, last: u64) -> Range<usize> {
+    let low = mappings.partition_point(|mapping| mapping[0] + mapping[1] <= first);
+    let behind = mappings[low..].iter();
+    let hit = behind.take_while(|mapping| mapping[0] <= last).count();
+    low..low + hit
 }
 
-#[cold]
-fn bad_mapping(place: usize) -> Refusal {
-    let place = place as u64;
-    Refusal::BadMapping { place }
-}
-
-/// The bounds of the space and the mappings of the table, not yet checked.
-fn parts<'a>(space: Space, table: &'a Table) -> Result<(Bounds, &'a [Mapping]), Refusal> {
-    let words = table.words();
-    let bounds = bounds(space).ok_or(Refusal::BadSpace)?;
-    let (mappings, rest) = words.as_chunks();
-    if words.is_empty() || !rest.is_empty() || words.len() > MOST_WORDS {
-        return Err(Refusal::BadTableLength);
-    }
-    let count = usize::try_from(table.count()).unwrap_or(usize::MAX);
-    let mappings = mappings.get(..count).ok_or(Refusal::BadCount)?;
-    Ok((bounds, mappings))
-}
-
-/// The end of the mapping if it keeps its rules and starts at `floor` or above; a test at a time.
-fn checked_end(bounds: &Bounds, floor: u64, mapping: &Mapping) -> Option<u64> {
-    let &[address, size, object, offset] = mapping;
-    let aligned = (address | size | offset).is_multiple_of(PAGE);
-    let end = address.checked_add(size)?;
-    let offset_end = offset.checked_add(size)?;
-    let holds = aligned
-        && size != 0
-        && (1..=HIGHEST_OBJECT).contains(&object)
-        && offset_end <= LIMIT
-        && floor <= address
-        && end <= bounds.end
-        && (end <= bounds.reserved_start || bounds.reserved_end <= address);
-    holds.then_some(end)
-}
-
-/// The same, all tests at once: whether it holds, and the end.
-fn masked_end(bounds: &Bounds, floor: u64, mapping: &Mapping) -> (bool, u64) {
-    let &[address, size, object, offset] = mapping;
-    // A sum that wraps, or a size of 0, is not above what it started from.
-    let end = address.wrapping_add(size);
-    let offset_end = offset.wrapping_add(size);
-    let holds = (address | size | offset).is_multiple_of(PAGE)
-        & (object.wrapping_sub(1) < HIGHEST_OBJECT)
-        & (floor <= address)
-        & (address < end)
-        & (end <= bounds.end)
-        & (offset < offset_end)
-        & (offset_end <= LIMIT)
-        & ((end <= bounds.reserved_start) | (bounds.reserved_end <= address));
-    (holds, end)
-}
-
-fn shown(mapping: &Mapping, address: u64) -> Option<Translation> {
-    let &[start, size, object, offset] = mapping;
-    let distance = address.wrapping_sub(start);
-    (distance < size).then(|| Translation {
-        object,
-        offset: offset + distance,
-    })
-}
-
-/// Checks with a branch for each rule, then looks for the address.
-#[inline(never)]
-pub fn checked(space: Space, table: &Table, address: u64) -> Answer {
-    let (bounds, mappings) = parts(space, table)?;
-    let mut floor = bounds.start;
-    for (place, mapping) in mappings.iter().enumerate() {
-        match checked_end(&bounds, floor, mapping) {
-            Some(end) => floor = end,
-            None => return Err(bad_mapping(place)),
+impl Way for Checked {
+    fn hits(
+        bounds: &Bounds,
+        mappings: &[Mapping],
+        first: u64,
+        last: u64,
+    ) -> Result<Range<usize>, Refusal> {
+        let mut floor = bounds.start;
+        for (place, mapping) in mappings.iter().enumerate() {
+            match checked_end(bounds, floor, mapping) {
+                Some(end) => floor = end,
+                None => return Err(bad_mapping(place)),
+            }
         }
+        let below = mappings.iter();
+        let low = below
+            .take_while(|mapping| mapping[0] + mapping[1] <= first)
+            .count();
+        let behind = mappings[low..].iter();
+        let hit = behind.take_while(|mapping| mapping[0] <= last).count();
+        Ok(low..low + hit)
     }
-    Ok(mappings.iter().find_map(|mapping| shown(mapping, address)))
 }
 
-/// Checks with a branch for each mapping, then looks for the address.
-#[inline(never)]
-pub fn masked(space: Space, table: &Table, address: u64) -> Answer {
-    let (bounds, mappings) = parts(space, table)?;
-    let mut floor = bounds.start;
-    for (place, mapping) in mappings.iter().enumerate() {
-        let (holds, end) = masked_end(&bounds, floor, mapping);
-        if !holds {
-            return Err(bad_mapping(place));
+impl Way for Masked {
+    fn hits(
+        bounds: &Bounds,
+        mappings: &[Mapping],
+        first: u64,
+        last: u64,
+    ) -> Result<Range<usize>, Refusal> {
+        let mut floor = bounds.start;
+        for (place, mapping) in mappings.iter().enumerate() {
+            let (holds, end) = masked_end(bounds, floor, mapping);
+            if !holds {
+                return Err(bad_mapping(place));
+            }
+            floor = end;
         }
-        floor = end;
+        Ok(find(mappings, first, last))
     }
-    Ok(mappings.iter().find_map(|mapping| shown(mapping, address)))
 }
 
-/// Checks as `masked` does and looks for the address in the same pass.
-#[inline(never)]
-pub fn merged(space: Space, table: &Table, address: u64) -> Answer {
-    let (bounds, mappings) = parts(space, table)?;
-    let mut floor = bounds.start;
-    let mut found = None;
-    for (place, mapping) in mappings.iter().enumerate() {
-        let (holds, end) = masked_end(&bounds, floor, mapping);
-        if !holds {
-            return Err(bad_mapping(place));
+impl Way for Merged {
+    fn hits(
+        bounds: &Bounds,
+        mappings: &[Mapping],
+        first: u64,
+        last: u64,
+    ) -> Result<Range<usize>, Refusal> {
+        let mut floor = bounds.start;
+        let mut hits = 0..0;
+        for (place, mapping) in mappings.iter().enumerate() {
+            let (holds, end) = masked_end(bounds, floor, mapping);
+            if !holds {
+                return Err(bad_mapping(place));
+            }
+            floor = end;
+            hits.start += usize::from(end <= first);
+            hits.end += usize::from(mapping[0] <= last);
         }
-        floor = end;
-        if address.wrapping_sub(mapping[0]) < mapping[1] {
-            found = Some(mapping);
-        }
+        Ok(hits)
     }
-    Ok(found.and_then(|mapping| shown(mapping, address)))
 }
 
 /// The rules that a mapping breaks, as bits, and its end. Numbers of 49 bits leave the sign free.
 fn broken_rules(bounds: &Bounds, floor: u64, mapping: &Mapping) -> (u64, u64) {
-    const UNALIGNED_OR_LARGE: u64 = (PAGE - 1) | !((1 << 49) - 1);
+    const UNALIGNED_OR_LARGE: u64 = (PAGE_SIZE - 1) | !((1 << 49) - 1);
     let &[address, size, object, offset] = mapping;
     let end = address.wrapping_add(size);
-    let bits = ((address | size | offset) & UNALIGNED_OR_LARGE) | (object >> 32);
+    let bits = ((address | size | offset) & UNALIGNED_OR_LARGE) | (object & !MAX_OBJECT);
     let signs = size.wrapping_sub(1)
         | object.wrapping_sub(1)
         | address.wrapping_sub(floor)
@@ -178,19 +132,137 @@ fn lowest_bad_place(bounds: &Bounds, mappings: &[Mapping]) -> usize {
     bad.expect("a rule is broken")
 }
 
-/// Collects the broken rules of all mappings and looks for the place only if there are any.
-#[inline(never)]
-pub fn folded(space: Space, table: &Table, address: u64) -> Answer {
-    let (bounds, mappings) = parts(space, table)?;
-    let mut floor = bounds.start;
-    let mut broken = 0;
-    for mapping in mappings {
-        let (rules, end) = broken_rules(&bounds, floor, mapping);
-        broken |= rules;
-        floor = end;
+impl Way for Folded {
+    fn hits(
+        bounds: &Bounds,
+        mappings: &[Mapping],
+        first: u64,
+        last: u64,
+    ) -> Result<Range<usize>, Refusal> {
+        let mut floor = bounds.start;
+        let mut broken = 0;
+        for mapping in mappings {
+            let (rules, end) = broken_rules(bounds, floor, mapping);
+            broken |= rules;
+            floor = end;
+        }
+        if broken != 0 {
+            return Err(bad_mapping(lowest_bad_place(bounds, mappings)));
+        }
+        Ok(find(mappings, first, last))
     }
-    if broken != 0 {
-        return Err(bad_mapping(lowest_bad_place(&bounds, mappings)));
+}
+
+/// A table in lent words.
+pub struct Plain<W> {
+    words: Vec<u64>,
+    count: u64,
+    way: PhantomData<W>,
+}
+
+impl<W> Plain<W> {
+    pub fn new(words: &[u64], count: u64) -> Plain<W> {
+        Plain {
+            words: words.to_vec(),
+            count,
+            way: PhantomData,
+        }
     }
-    Ok(mappings.iter().find_map(|mapping| shown(mapping, address)))
+}
+
+fn counted(count: u64, capacity: usize) -> Result<usize, Refusal> {
+    let count = usize::try_from(count).unwrap_or(usize::MAX);
+    (count <= capacity)
+        .then_some(count)
+        .ok_or(Refusal::BadCount)
+}
+
+fn bind<W: Way>(
+    space: Space,
+    words: &mut [u64],
+    count: u64,
+    list: &mut [u64],
+    request: &Request,
+) -> Bound {
+    if request.op > Request::UNMAP {
+        return Err(Refusal::BadOp);
+    }
+    let bounds = bounds(space)?;
+    let capacity = capacity(words.len())?;
+    check_list(list, capacity)?;
+    let count = counted(count, capacity)?;
+    let table: &mut [Mapping] = words.as_chunks_mut().0;
+    let last = request.address.wrapping_add(request.size).wrapping_sub(1);
+    let hits = W::hits(&bounds, &table[..count], request.address, last)?;
+    let end = check_request(&bounds, request)?;
+    change(table, count, list, request, hits, end)
+}
+
+/// Carries out a request that is in order, unless there is no room.
+fn change(
+    table: &mut [Mapping],
+    count: usize,
+    list: &mut [u64],
+    request: &Request,
+    hits: Range<usize>,
+    end: u64,
+) -> Bound {
+    let hit = &table[hits.clone()];
+    let lower = hit.first().and_then(|old| lower_rest(request, old));
+    let upper = hit.last().and_then(|old| upper_rest(end, old));
+    let new = [lower, new_mapping(request), upper];
+    let behind = hits.start + new.iter().flatten().count();
+    let after = behind + (count - hits.end);
+    if after > table.len() {
+        return Err(Refusal::NoRoom);
+    }
+    let (operations, _) = list.as_chunks_mut::<OPERATION_WORDS>();
+    for (operation, old) in operations.iter_mut().zip(hit) {
+        *operation = cut(request, end, old);
+    }
+    let mut number = hit.len();
+    if let [_, Some(new), _] = &new {
+        operations[number] = map_operation(new);
+        number += 1;
+    }
+    table.copy_within(hits.end..count, behind);
+    for (place, new) in table[hits.start..behind]
+        .iter_mut()
+        .zip(new.iter().flatten())
+    {
+        *place = *new;
+    }
+    table[after..].fill([0; MAPPING_WORDS]);
+    Ok(Grant {
+        operations: number as u64,
+        count: after as u64,
+    })
+}
+
+fn lookup<W: Way>(space: Space, words: &[u64], count: u64, address: u64) -> Shown {
+    let bounds = bounds(space)?;
+    let count = counted(count, capacity(words.len())?)?;
+    let mappings: &[Mapping] = &words.as_chunks().0[..count];
+    let hits = W::hits(&bounds, mappings, address, address)?;
+    let shown = |&[start, _, object, offset]: &Mapping| Translation {
+        object,
+        offset: offset + (address - start),
+    };
+    Ok(mappings[hits].first().map(shown))
+}
+
+impl<W: Way> Manager for Plain<W> {
+    fn bind(&mut self, space: Space, request: Request, list: &mut [u64]) -> Bound {
+        let grant = bind::<W>(space, &mut self.words, self.count, list, &request)?;
+        self.count = grant.count;
+        Ok(grant)
+    }
+
+    fn lookup(&mut self, space: Space, address: u64) -> Shown {
+        lookup::<W>(space, &self.words, self.count, address)
+    }
+
+    fn table(&self) -> (Vec<u64>, u64) {
+        (self.words.clone(), self.count)
+    }
 }

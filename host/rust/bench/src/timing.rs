@@ -1,12 +1,11 @@
 //! Times of several contenders, taken in turn in one run.
 
-use crate::contender::Contender;
-use crate::input::Input;
+use crate::line::{Call, Line};
+use crate::manager::{Contender, Manager};
 use std::hint::black_box;
 use std::time::Instant;
-use waylluqen::{Space, Table};
 
-/// How often each contender is timed on each input.
+/// How often each contender is timed on each line.
 const ROUNDS: usize = 1000;
 
 /// About how long one timing takes: long beside the clock, short beside what else the machine does.
@@ -20,7 +19,7 @@ pub struct Spread {
 }
 
 impl Spread {
-    fn of(mut numbers: Vec<f64>) -> Spread {
+    pub fn of(mut numbers: Vec<f64>) -> Spread {
         numbers.sort_unstable_by(f64::total_cmp);
         let last = numbers.len() - 1;
         Spread {
@@ -31,7 +30,7 @@ impl Spread {
     }
 }
 
-/// Nanoseconds a call on one input: for each round, those of each contender.
+/// Nanoseconds a call of one line: for each round, those of each contender.
 pub struct Times {
     rounds: Vec<Vec<f64>>,
 }
@@ -48,69 +47,78 @@ impl Times {
     }
 }
 
-/// A look-up in words that are lent for as long as it is timed.
-struct Timed<'a> {
-    space: Space,
-    table: Table<'a>,
-    address: u64,
-}
-
-impl<'a> Timed<'a> {
-    fn new(input: &Input, words: &'a mut [u64]) -> Timed<'a> {
-        Timed {
-            space: input.space,
-            table: Table::with_count(words, input.mappings),
-            address: input.address,
+/// Makes the calls of a line once, which leaves the table as it was.
+#[inline(never)]
+pub fn make_calls(manager: &mut dyn Manager, line: &Line, list: &mut [u64]) {
+    for call in &line.calls {
+        match *black_box(call) {
+            Call::Bind(request) => {
+                let _ = black_box(manager.bind(line.space, request, list));
+            }
+            Call::Lookup(address) => {
+                let _ = black_box(manager.lookup(line.space, address));
+            }
         }
     }
 }
 
-/// Nanoseconds a call, in a batch of so many calls.
-fn time(contender: &Contender, timed: &Timed, calls: u32) -> f64 {
-    let start = Instant::now();
-    for _ in 0..calls {
-        let answer = black_box(contender.lookup)(
-            black_box(timed.space),
-            black_box(&timed.table),
-            black_box(timed.address),
-        );
-        let _ = black_box(answer);
+/// A line with a manager for each contender, and words that all write their operations to.
+struct Timed<'a> {
+    line: &'a Line,
+    managers: Vec<Box<dyn Manager>>,
+    list: Vec<u64>,
+    /// How often the calls are made in a batch.
+    times: u32,
+}
+
+impl<'a> Timed<'a> {
+    fn new(contenders: &[&Contender], line: &'a Line) -> Timed<'a> {
+        let begin = |contender: &&Contender| (contender.begin)(&line.table.words, line.table.count);
+        let mut timed = Timed {
+            line,
+            managers: contenders.iter().map(begin).collect(),
+            list: line.list(),
+            times: 1,
+        };
+        // The first time warms up, and the second tells how many take as long as a batch should.
+        timed.times = (1000 / line.calls.len()) as u32;
+        timed.time(0);
+        let of_call = timed.time(0);
+        timed.times = (BATCH_NANOSECONDS / (of_call * line.calls.len() as f64)).ceil() as u32;
+        timed
     }
-    start.elapsed().as_nanos() as f64 / f64::from(calls)
-}
 
-/// The number of calls that take about as long as a batch should.
-fn batch(contender: &Contender, timed: &Timed) -> u32 {
-    let warm_up = time(contender, timed, 1000);
-    (BATCH_NANOSECONDS / warm_up).ceil() as u32
-}
-
-/// One time of each contender, one directly after the other, the one at `first` before the others.
-fn round(contenders: &[&Contender], timed: &Timed, calls: u32, first: usize) -> Vec<f64> {
-    let mut times = vec![0.0; contenders.len()];
-    for turn in 0..contenders.len() {
-        let at = (first + turn) % contenders.len();
-        times[at] = time(contenders[at], timed, calls);
+    /// Nanoseconds a call of one contender, in a batch.
+    fn time(&mut self, contender: usize) -> f64 {
+        let manager = &mut *self.managers[contender];
+        let start = Instant::now();
+        for _ in 0..self.times {
+            make_calls(manager, self.line, &mut self.list);
+        }
+        let calls = f64::from(self.times) * self.line.calls.len() as f64;
+        start.elapsed().as_nanos() as f64 / calls
     }
-    times
+
+    /// One time of each contender, one directly after the other, the one at `first` first.
+    fn round(&mut self, first: usize) -> Vec<f64> {
+        let mut times = vec![0.0; self.managers.len()];
+        for turn in 0..times.len() {
+            let at = (first + turn) % times.len();
+            times[at] = self.time(at);
+        }
+        times
+    }
 }
 
-/// The times on each input. A round goes through all inputs, so that what else the machine does
+/// The times of each line. A round goes through all lines, so that what else the machine does
 /// meanwhile meets them all alike.
-pub fn measure(contenders: &[&Contender], inputs: &[Input]) -> Vec<Times> {
-    let mut words: Vec<Vec<u64>> = inputs.iter().map(|input| input.words.clone()).collect();
-    let lent = inputs.iter().zip(&mut words);
-    let timed: Vec<Timed> = lent
-        .map(|(input, words)| Timed::new(input, words))
-        .collect();
-    let calls: Vec<u32> = timed
-        .iter()
-        .map(|timed| batch(contenders[0], timed))
-        .collect();
+pub fn measure(contenders: &[&Contender], lines: &[Line]) -> Vec<Times> {
+    let timed = lines.iter().map(|line| Timed::new(contenders, line));
+    let mut timed: Vec<Timed> = timed.collect();
     let mut all: Vec<Times> = timed.iter().map(|_| Times { rounds: Vec::new() }).collect();
     for first in 0..ROUNDS {
-        for ((times, timed), &calls) in all.iter_mut().zip(&timed).zip(&calls) {
-            times.rounds.push(round(contenders, timed, calls, first));
+        for (times, timed) in all.iter_mut().zip(&mut timed) {
+            times.rounds.push(timed.round(first));
         }
     }
     all

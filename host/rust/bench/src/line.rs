@@ -1,0 +1,138 @@
+//! The lines of the table: which calls are timed, on which mappings.
+
+use waylluqen::{operation_list_words, Request, MAPPING_WORDS};
+use waylluqen_compare::library;
+use waylluqen_compare::tables::Table;
+use waylluqen_model::random::Random;
+use waylluqen_model::{Space, PAGE};
+
+/// The room of the tables that are timed.
+pub const SIZES: [usize; 4] = [16, 64, 256, 512];
+
+const LOOK_UPS: usize = 64;
+
+#[derive(Clone, Copy)]
+pub enum Call {
+    Bind(Request),
+    Lookup(u64),
+}
+
+/// Calls that leave a table as it was, so that they can be made again.
+pub struct Line {
+    pub what: &'static str,
+    /// How many mappings there is room for.
+    pub room: usize,
+    pub table: Table,
+    /// The table's space, as the library has it.
+    pub space: waylluqen::Space,
+    pub calls: Vec<Call>,
+}
+
+impl Line {
+    fn new(what: &'static str, room: usize, table: Table, calls: Vec<Call>) -> Line {
+        Line {
+            what,
+            room,
+            space: library::space(&table.space),
+            table,
+            calls,
+        }
+    }
+
+    pub fn name(&self) -> String {
+        format!("{}, {}", self.what, self.room)
+    }
+
+    /// Words for the operations of a request.
+    pub fn list(&self) -> Vec<u64> {
+        vec![0; operation_list_words(self.room)]
+    }
+}
+
+/// A space with a page reserved behind the first half of the mappings, and the mappings: one to
+/// three pages each, every third one with a gap in front of it.
+pub fn space_and_mappings(count: usize) -> (Space, Vec<[u64; MAPPING_WORDS]>) {
+    let start = 1 << 32;
+    let mut address = start;
+    let mut reserved_start = 0;
+    let mut mappings = Vec::new();
+    for place in 0..count as u64 {
+        if place == count as u64 / 2 {
+            reserved_start = address;
+            address += PAGE;
+        }
+        if place % 3 == 2 {
+            address += 2 * PAGE;
+        }
+        let size = (1 + place % 3) * PAGE;
+        mappings.push([address, size, 1 + place % 7, place * 16 * PAGE]);
+        address += size;
+    }
+    let space = Space {
+        start,
+        size: address + 16 * PAGE - start,
+        reserved_start,
+        reserved_size: PAGE,
+    };
+    (space, mappings)
+}
+
+fn table(space: Space, mappings: &[[u64; MAPPING_WORDS]], room: usize) -> Table {
+    let mut words = mappings.concat();
+    words.resize(room * MAPPING_WORDS, 0);
+    Table {
+        space,
+        words,
+        count: mappings.len() as u64,
+    }
+}
+
+/// The calls for a mapping of three pages at a place: what they do, and what puts it back.
+type Change = fn([u64; MAPPING_WORDS]) -> Request;
+
+const OTHER_OBJECT: u64 = 99;
+
+fn line(what: &'static str, room: usize, count: usize, place: usize, change: Change) -> Line {
+    let (space, mappings) = space_and_mappings(count);
+    let old = mappings[place];
+    let [address, size, object, offset] = old;
+    let back = Request::map(address, size, object, offset);
+    let calls = vec![Call::Bind(change(old)), Call::Bind(back)];
+    Line::new(what, room, table(space, &mappings, room), calls)
+}
+
+/// Addresses in mappings all over the table.
+fn look_up(room: usize) -> Line {
+    let (space, mappings) = space_and_mappings(room);
+    let mut random = Random::new(room as u64);
+    let mut address = || {
+        let [address, size, ..] = mappings[random.below(room as u64) as usize];
+        address + random.below(size)
+    };
+    let calls = (0..LOOK_UPS).map(|_| Call::Lookup(address())).collect();
+    Line::new("look-up", room, table(space, &mappings, room), calls)
+}
+
+/// The lines of a table with so much room. A mapping of three pages is at every third place.
+fn lines_of(room: usize) -> [Line; 5] {
+    let middle = room / 6 * 3 + 2;
+    let replace: Change = |[address, size, ..]| Request::map(address, size, OTHER_OBJECT, 0);
+    let split: Change = |[address, ..]| Request::map(address + PAGE, PAGE, OTHER_OBJECT, 0);
+    let unmap: Change = |[address, size, ..]| Request::unmap(address, size);
+    [
+        line("map over one mapping", room, room, middle, replace),
+        line("map into one and undo", room, room - 2, middle, split),
+        line("the same at the front", room, room - 2, 2, split),
+        line("unmap and map", room, room, middle, unmap),
+        look_up(room),
+    ]
+}
+
+pub fn lines() -> Vec<Line> {
+    let of_size = SIZES.map(lines_of);
+    let mut lines: Vec<Line> = of_size.into_iter().flatten().collect();
+    // Those of the same calls beside one another; the sort keeps the order of the sizes.
+    let order = lines_of(SIZES[0]).map(|line| line.what);
+    lines.sort_by_key(|line| order.iter().position(|&what| what == line.what));
+    lines
+}

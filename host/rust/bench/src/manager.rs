@@ -1,0 +1,99 @@
+//! What is timed: managers of one address space, the library's and plain ones beside it.
+
+use crate::plain::{Checked, Folded, Masked, Merged, Plain};
+use crate::tree::Tree;
+use waylluqen::{Refusal, Request, Space, Table, Translation};
+
+/// What a granted request answers.
+#[derive(Clone, Copy, Debug, PartialEq, Eq)]
+pub struct Grant {
+    pub operations: u64,
+    pub count: u64,
+}
+
+pub type Bound = Result<Grant, Refusal>;
+pub type Shown = Result<Option<Translation>, Refusal>;
+
+/// Keeps the mappings of a space, and checks them at each call.
+pub trait Manager {
+    fn bind(&mut self, space: Space, request: Request, list: &mut [u64]) -> Bound;
+    fn lookup(&mut self, space: Space, address: u64) -> Shown;
+    /// The table as words, and its count.
+    fn table(&self) -> (Vec<u64>, u64);
+}
+
+pub struct Contender {
+    pub name: &'static str,
+    /// A manager of the table in these words, of so many mappings.
+    pub begin: fn(&[u64], u64) -> Box<dyn Manager>,
+}
+
+pub const LIBRARY: Contender = Contender {
+    name: "library",
+    begin: |words, count| {
+        Box::new(Library {
+            words: words.to_vec(),
+            count,
+        })
+    },
+};
+
+pub const PLAIN: [Contender; 4] = [
+    Contender {
+        name: "checked",
+        begin: |words, count| Box::new(Plain::<Checked>::new(words, count)),
+    },
+    Contender {
+        name: "masked",
+        begin: |words, count| Box::new(Plain::<Masked>::new(words, count)),
+    },
+    Contender {
+        name: "merged",
+        begin: |words, count| Box::new(Plain::<Merged>::new(words, count)),
+    },
+    Contender {
+        name: "folded",
+        begin: |words, count| Box::new(Plain::<Folded>::new(words, count)),
+    },
+];
+
+/// Its mappings are in a map of the standard library, not in lent words.
+pub const TREE: Contender = Contender {
+    name: "BTreeMap",
+    begin: |words, count| Box::new(Tree::new(words, count)),
+};
+
+/// Those whose mappings are in lent words, which can be any.
+pub fn lent() -> impl Iterator<Item = &'static Contender> {
+    [&LIBRARY].into_iter().chain(&PLAIN)
+}
+
+/// The library first, then the plain ones, the tree last.
+pub fn contenders() -> Vec<&'static Contender> {
+    lent().chain([&TREE]).collect()
+}
+
+struct Library {
+    words: Vec<u64>,
+    count: u64,
+}
+
+impl Manager for Library {
+    fn bind(&mut self, space: Space, request: Request, list: &mut [u64]) -> Bound {
+        let mut table = Table::with_count(&mut self.words, self.count);
+        let operations = table.bind(space, request, list)?.len() as u64;
+        self.count = table.count();
+        Ok(Grant {
+            operations,
+            count: self.count,
+        })
+    }
+
+    fn lookup(&mut self, space: Space, address: u64) -> Shown {
+        Table::with_count(&mut self.words, self.count).lookup(space, address)
+    }
+
+    fn table(&self) -> (Vec<u64>, u64) {
+        (self.words.clone(), self.count)
+    }
+}

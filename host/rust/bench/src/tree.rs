@@ -1,0 +1,124 @@
+//! The same calls on a map of the standard library: a change moves no mapping, and the check goes
+//! through the map.
+
+use crate::cut::{cut, lower_rest, map_operation, new_mapping, upper_rest};
+use crate::manager::{Bound, Grant, Manager, Shown};
+use crate::rules::{bad_mapping, bounds, capacity, check_list, check_request, masked_end};
+use crate::rules::{Bounds, Mapping};
+use std::collections::BTreeMap;
+use waylluqen::{Refusal, Request, Space, Translation, MAPPING_WORDS, OPERATION_WORDS};
+
+/// Size, object and offset by their address.
+pub struct Tree {
+    mappings: BTreeMap<u64, [u64; 3]>,
+    /// Of the table that it stands for.
+    words: usize,
+}
+
+fn mapping((&address, &[size, object, offset]): (&u64, &[u64; 3])) -> Mapping {
+    [address, size, object, offset]
+}
+
+impl Tree {
+    /// The mappings of a table whose addresses ascend.
+    pub fn new(words: &[u64], count: u64) -> Tree {
+        let (table, _) = words.as_chunks::<MAPPING_WORDS>();
+        let entry = |&[address, size, object, offset]: &Mapping| (address, [size, object, offset]);
+        Tree {
+            mappings: table[..count as usize].iter().map(entry).collect(),
+            words: words.len(),
+        }
+    }
+
+    fn check(&self, bounds: &Bounds) -> Result<(), Refusal> {
+        let mut floor = bounds.start;
+        for (place, entry) in self.mappings.iter().enumerate() {
+            let (holds, end) = masked_end(bounds, floor, &mapping(entry));
+            if !holds {
+                return Err(bad_mapping(place));
+            }
+            floor = end;
+        }
+        Ok(())
+    }
+
+    /// The mapping with the highest address at or below this one.
+    fn at_or_below(&self, address: u64) -> Option<Mapping> {
+        self.mappings.range(..=address).next_back().map(mapping)
+    }
+
+    /// Those that have a byte in `[start, end)`, ascending.
+    fn hits(&self, start: u64, end: u64) -> impl DoubleEndedIterator<Item = Mapping> + '_ {
+        let reaching = self
+            .at_or_below(start)
+            .filter(|old| start < old[0] + old[1]);
+        let from = reaching.map_or(start, |old| old[0]);
+        self.mappings.range(from..end).map(mapping)
+    }
+
+    fn insert(&mut self, [address, size, object, offset]: Mapping) {
+        self.mappings.insert(address, [size, object, offset]);
+    }
+
+    /// Carries out a request that is in order, unless there is no room.
+    fn change(&mut self, capacity: usize, list: &mut [u64], request: &Request, end: u64) -> Bound {
+        let hits = || self.hits(request.address, end);
+        let lower = hits().next().and_then(|old| lower_rest(request, &old));
+        let upper = hits().next_back().and_then(|old| upper_rest(end, &old));
+        let new = [lower, new_mapping(request), upper];
+        let mut number = hits().count();
+        if self.mappings.len() - number + new.iter().flatten().count() > capacity {
+            return Err(Refusal::NoRoom);
+        }
+        let (operations, _) = list.as_chunks_mut::<OPERATION_WORDS>();
+        for (operation, old) in operations.iter_mut().zip(hits()) {
+            *operation = cut(request, end, &old);
+        }
+        for operation in &operations[..number] {
+            self.mappings.remove(&operation[2]);
+        }
+        if let [_, Some(new), _] = &new {
+            operations[number] = map_operation(new);
+            number += 1;
+        }
+        for new in new.into_iter().flatten() {
+            self.insert(new);
+        }
+        Ok(Grant {
+            operations: number as u64,
+            count: self.mappings.len() as u64,
+        })
+    }
+}
+
+impl Manager for Tree {
+    fn bind(&mut self, space: Space, request: Request, list: &mut [u64]) -> Bound {
+        if request.op > Request::UNMAP {
+            return Err(Refusal::BadOp);
+        }
+        let bounds = bounds(space)?;
+        let capacity = capacity(self.words)?;
+        check_list(list, capacity)?;
+        self.check(&bounds)?;
+        let end = check_request(&bounds, &request)?;
+        self.change(capacity, list, &request, end)
+    }
+
+    fn lookup(&mut self, space: Space, address: u64) -> Shown {
+        let bounds = bounds(space)?;
+        capacity(self.words)?;
+        self.check(&bounds)?;
+        let below = self.at_or_below(address);
+        let found = below.filter(|&[start, size, ..]| address - start < size);
+        Ok(found.map(|[start, _, object, offset]| Translation {
+            object,
+            offset: offset + (address - start),
+        }))
+    }
+
+    fn table(&self) -> (Vec<u64>, u64) {
+        let mut words: Vec<u64> = self.mappings.iter().flat_map(mapping).collect();
+        words.resize(self.words, 0);
+        (words, self.mappings.len() as u64)
+    }
+}

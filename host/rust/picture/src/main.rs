@@ -1,0 +1,286 @@
+//! Draws vmbind's text, or a saved table, as an SVG picture of the address space.
+
+#![forbid(unsafe_code)]
+
+mod colours;
+mod column;
+mod flow;
+mod layout;
+mod legend;
+mod mapping;
+mod number;
+mod picture;
+mod place;
+mod replay;
+mod saved;
+mod svg;
+mod text;
+
+use mapping::Space;
+use picture::View;
+use replay::Grant;
+use std::ffi::{OsStr, OsString};
+use std::io::{self, Read, Write};
+use std::process::ExitCode;
+
+const USAGE: &str = "usage: picture [-h] [--space START SIZE [RESERVED-START RESERVED-SIZE]]
+               [--grant N | --table] [file]
+";
+
+const HELP: &str = "
+Draws vmbind's text as an SVG picture of the address space: the mappings before and after a
+granted request, and its operations between them. Or draws a saved table.
+
+One scale for all, which goes by what the request changes. What is much longer is broken by a
+zigzag, what is much shorter is a thin line, and gaps are shortened. Of many mappings that stay
+as they are, those far from the request are left out. A bar tells the scale.
+
+positional arguments:
+  file        the text or the table; standard input if - or none
+
+options:
+  --space START SIZE [RESERVED-START RESERVED-SIZE]
+              the space's numbers, which vmbind does not print, decimal or with 0x; if there are
+              none, the picture goes from the first mapping to the last
+  --grant N   the request of the N-th granted line of the text, counted from 1; else the last
+  --table     the file is a saved table: the lent words as bytes, 64-bit little-endian, four a
+              mapping, up to the first whose size is 0
+  -h, --help  show this help message and exit
+
+A text that does not replay is told on standard error with its line, and nothing is written.
+";
+
+const FAILED: u8 = 1;
+const BAD_USAGE: u8 = 2;
+
+/// What the program's arguments ask for.
+#[derive(Debug, Default, PartialEq)]
+struct Asked {
+    help: bool,
+    space: Option<Vec<u64>>,
+    grant: Option<usize>,
+    table: bool,
+    file: Option<OsString>,
+}
+
+/// The numbers behind `--space`, two or four.
+fn take_numbers(words: &mut &[OsString]) -> Result<Vec<u64>, String> {
+    let number = |word: &OsString| word.to_str().and_then(number::parse);
+    let numbers: Vec<u64> = words.iter().map_while(number).take(4).collect();
+    *words = &words[numbers.len()..];
+    match numbers.len() {
+        2 | 4 => Ok(numbers),
+        others => Err(format!(
+            "--space wants 2 or 4 numbers of 64 bits, not {others}"
+        )),
+    }
+}
+
+fn take_number(words: &mut &[OsString]) -> Result<usize, String> {
+    let number = words
+        .first()
+        .and_then(|word| word.to_str())
+        .and_then(number::parse);
+    let number = number
+        .and_then(|number| usize::try_from(number).ok())
+        .filter(|&number| number > 0);
+    *words = words.get(1..).unwrap_or_default();
+    number.ok_or_else(|| "--grant wants a number from 1 on".to_string())
+}
+
+fn asked(mut words: &[OsString]) -> Result<Asked, String> {
+    let mut asked = Asked {
+        help: words.iter().any(|word| word == "-h" || word == "--help"),
+        ..Asked::default()
+    };
+    while let ([word, others @ ..], false) = (words, asked.help) {
+        words = others;
+        match word.to_str() {
+            Some("--space") => asked.space = Some(take_numbers(&mut words)?),
+            Some("--grant") => asked.grant = Some(take_number(&mut words)?),
+            Some("--table") => asked.table = true,
+            Some(option) if option.len() > 1 && option.starts_with('-') => {
+                return Err(format!("unrecognized arguments: {option}"));
+            }
+            _ if asked.file.is_none() => asked.file = Some(word.clone()),
+            _ => {
+                return Err(format!(
+                    "unrecognized arguments: {}",
+                    word.to_string_lossy()
+                ))
+            }
+        }
+    }
+    if asked.table && asked.grant.is_some() {
+        return Err("a table has no grants".to_string());
+    }
+    Ok(asked)
+}
+
+/// The system's words for an error, without the number that Rust adds.
+fn reason(error: &io::Error) -> String {
+    let told = error.to_string();
+    match told.split_once(" (os error ") {
+        Some((words, _)) => words.to_string(),
+        None => told,
+    }
+}
+
+fn read(file: &OsStr) -> io::Result<Vec<u8>> {
+    if file != "-" {
+        return std::fs::read(file);
+    }
+    let mut bytes = Vec::new();
+    io::stdin().lock().read_to_end(&mut bytes)?;
+    Ok(bytes)
+}
+
+/// The request that is asked for, and the picture's title.
+fn grant_of(asked: &Asked, name: &str, bytes: &[u8]) -> Result<(Grant, String), String> {
+    if asked.table {
+        let after = saved::table(bytes).map_err(|what| format!("{name}: {what}"))?;
+        let grant = Grant {
+            before: after.clone(),
+            after,
+            ..Grant::default()
+        };
+        return Ok((grant, "The address space".to_string()));
+    }
+    let replayed = replay::replay(&String::from_utf8_lossy(bytes), asked.grant)
+        .map_err(|bad| format!("{name}:{}: {}", bad.line, bad.what))?;
+    let grants = replayed.grants;
+    let grant = replayed.wanted.ok_or_else(|| match grants {
+        0 => format!("{name}: no request is granted"),
+        _ => format!(
+            "{name}: it grants {}, no more",
+            number::count(grants, "request")
+        ),
+    })?;
+    let place = asked.grant.unwrap_or(grants);
+    Ok((grant, format!("Granted request {place} of {grants}")))
+}
+
+fn space_of(asked: &Asked, grant: &Grant) -> Result<Space, String> {
+    let named = grant.operations.iter().map(|operation| &operation.named);
+    let mut mappings = grant.before.iter().chain(&grant.after).chain(named);
+    let Some(numbers) = &asked.space else {
+        return Space::around(mappings)
+            .ok_or("no mapping to show; --space gives a space".to_string());
+    };
+    let reserved = match numbers[2..] {
+        [start, size] => (start, size),
+        _ => (0, 0),
+    };
+    let space = Space::of(numbers[0], numbers[1], reserved)?;
+    mappings.try_for_each(|mapping| space.check(mapping))?;
+    Ok(space)
+}
+
+fn picture(asked: &Asked) -> Result<String, String> {
+    let file = asked.file.clone().unwrap_or_else(|| "-".into());
+    let name = file.to_string_lossy();
+    let bytes = read(&file).map_err(|error| format!("{name}: {}", reason(&error)))?;
+    let (grant, title) = grant_of(asked, &name, &bytes)?;
+    let space = space_of(asked, &grant).map_err(|what| format!("{name}: {what}"))?;
+    Ok(picture::draw(&View {
+        title,
+        space,
+        grant,
+        alone: asked.table,
+    }))
+}
+
+fn write(text: &str) -> Result<(), String> {
+    let mut out = io::stdout().lock();
+    out.write_all(text.as_bytes())
+        .and_then(|()| out.flush())
+        .map_err(|error| format!("standard output: {}", reason(&error)))
+}
+
+/// `eprint!` would panic where standard error takes nothing.
+fn tell(message: &str) {
+    let _ = io::stderr().write_all(message.as_bytes());
+}
+
+fn main() -> ExitCode {
+    let words: Vec<OsString> = std::env::args_os().skip(1).collect();
+    let asked = match asked(&words) {
+        Ok(asked) => asked,
+        Err(wrong) => {
+            tell(&format!("{USAGE}picture: error: {wrong}\n"));
+            return ExitCode::from(BAD_USAGE);
+        }
+    };
+    let text = match asked.help {
+        true => Ok([USAGE, HELP].concat()),
+        false => picture(&asked),
+    };
+    if let Err(wrong) = text.and_then(|text| write(&text)) {
+        tell(&format!("picture: {wrong}\n"));
+        return ExitCode::from(FAILED);
+    }
+    ExitCode::SUCCESS
+}
+
+#[cfg(test)]
+mod tests {
+    use super::*;
+    use crate::mapping::Mapping;
+
+    fn asked_of(words: &[&str]) -> Result<Asked, String> {
+        asked(&words.iter().map(OsString::from).collect::<Vec<_>>())
+    }
+
+    #[test]
+    fn options_and_one_file() {
+        assert_eq!(asked_of(&[]), Ok(Asked::default()));
+        let all = asked_of(&["--space", "0", "0x1_0000", "a b", "--grant", "2"]).unwrap();
+        assert_eq!(all.space, Some(vec![0, 65536]));
+        assert_eq!((all.grant, all.file), (Some(2), Some("a b".into())));
+        let table = asked_of(&["--table", "-", "--space", "1", "2", "3", "4"]).unwrap();
+        assert!(table.table);
+        assert_eq!(
+            (table.space, table.file),
+            (Some(vec![1, 2, 3, 4]), Some("-".into()))
+        );
+    }
+
+    #[test]
+    fn help_goes_before_what_is_wrong() {
+        for words in [&["-h"][..], &["--help"], &["a", "b", "-x", "-h"]] {
+            assert!(asked_of(words).unwrap().help);
+        }
+    }
+
+    #[test]
+    fn what_is_wrong_is_told() {
+        for (words, told) in [
+            (&["-x"][..], "unrecognized arguments: -x"),
+            (&["a", "b"], "unrecognized arguments: b"),
+            (
+                &["--space", "0", "a"],
+                "--space wants 2 or 4 numbers of 64 bits, not 1",
+            ),
+            (
+                &["--space", "0", "1", "2", "a"],
+                "--space wants 2 or 4 numbers of 64 bits, not 3",
+            ),
+            (&["--grant"], "--grant wants a number from 1 on"),
+            (&["--grant", "0"], "--grant wants a number from 1 on"),
+            (&["--table", "--grant", "1"], "a table has no grants"),
+        ] {
+            assert_eq!(asked_of(words), Err(told.to_string()));
+        }
+    }
+
+    #[test]
+    fn without_a_space_the_mappings_give_it() {
+        let mapping = |address| Mapping::of([address, 4096, 7, 0]).unwrap();
+        let mut grant = Grant::default();
+        assert!(space_of(&Asked::default(), &grant).is_err());
+        grant.before = vec![mapping(8192)];
+        grant.after = vec![mapping(4096)];
+        let range = space_of(&Asked::default(), &grant).unwrap().range;
+        assert_eq!((range.start, range.end), (4096, 12288));
+    }
+}

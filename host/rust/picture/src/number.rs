@@ -1,0 +1,102 @@
+//! Numbers as they are read, and as the picture shows them.
+
+/// A decimal number, or a hexadecimal one behind 0x; _ may stand between digits.
+pub fn parse(word: &str) -> Option<u64> {
+    let (digits, base) = match word.strip_prefix("0x") {
+        Some(digits) => (digits, 16),
+        None => (word, 10),
+    };
+    // An underscore at an end, or beside another one, leaves a part without digits.
+    let is_part = |part: &str| !part.is_empty() && part.chars().all(|c| c.is_digit(base));
+    if !digits.split('_').all(is_part) {
+        return None;
+    }
+    u64::from_str_radix(&digits.replace('_', ""), base).ok()
+}
+
+/// An address or an offset, in the form that a script takes: 0x460_0000.
+pub fn hex(number: u64) -> String {
+    let digits = format!("{number:x}");
+    let mut out = String::from("0x");
+    for (at, digit) in digits.chars().enumerate() {
+        if at > 0 && (digits.len() - at) % 4 == 0 {
+            out.push('_');
+        }
+        out.push(digit);
+    }
+    out
+}
+
+/// A number of bytes in the largest unit that it has one of, with one decimal if it needs one.
+pub fn size(bytes: u64) -> String {
+    const UNITS: [&str; 5] = ["B", "KiB", "MiB", "GiB", "TiB"];
+    let has_one = |place: &usize| bytes >> (10 * place) > 0;
+    let place = (0..UNITS.len()).rev().find(has_one).unwrap_or(0);
+    let (tenfold, unit) = (u128::from(bytes) * 10, 1_u128 << (10 * place));
+    let tenths = (tenfold + unit / 2) / unit;
+    let number = match (tenths / 10, tenths % 10) {
+        // What is left out of 4 GiB is not 4 GiB.
+        (whole, 0) if tenths * unit > tenfold => format!("almost {whole}"),
+        (whole, 0) => whole.to_string(),
+        (whole, tenth) => format!("{whole}.{tenth}"),
+    };
+    format!("{number} {}", UNITS[place])
+}
+
+/// As many as `number` of what `one` is.
+pub fn count(number: usize, one: &str) -> String {
+    let ending = if number == 1 { "" } else { "s" };
+    format!("{number} {one}{ending}")
+}
+
+#[cfg(test)]
+mod tests {
+    use super::*;
+
+    #[test]
+    fn decimal_and_hexadecimal() {
+        assert_eq!(parse("0"), Some(0));
+        assert_eq!(parse("65_536"), Some(65_536));
+        assert_eq!(parse("0xaB_cD"), Some(0xabcd));
+        assert_eq!(parse("18446744073709551615"), Some(u64::MAX));
+        for word in [
+            "",
+            "_1",
+            "1__2",
+            "0x",
+            "0X1",
+            "1a",
+            "-1",
+            "+1",
+            "18446744073709551616",
+        ] {
+            assert_eq!(parse(word), None, "{word}");
+        }
+    }
+
+    #[test]
+    fn shown_in_hexadecimal() {
+        for (number, shown) in [(0, "0x0"), (0x1000, "0x1000"), (0x1_0000, "0x1_0000")] {
+            assert_eq!(hex(number), shown);
+        }
+        assert_eq!(hex(1 << 48), "0x1_0000_0000_0000");
+        assert_eq!(parse(&hex(0x460_0000)), Some(0x460_0000));
+    }
+
+    #[test]
+    fn shown_as_sizes() {
+        assert_eq!(size(0), "0 B");
+        assert_eq!(size(4096), "4 KiB");
+        assert_eq!(size(0x10_0000 - 0x1000), "1020 KiB");
+        assert_eq!(size(0x7e_9000), "7.9 MiB");
+        assert_eq!(size(1 << 48), "256 TiB");
+        assert_eq!(size((1 << 48) - 4096), "almost 256 TiB");
+        assert_eq!(size((1 << 48) + 4096), "256 TiB");
+    }
+
+    #[test]
+    fn one_and_more() {
+        assert_eq!(count(1, "mapping"), "1 mapping");
+        assert_eq!(count(0, "mapping"), "0 mappings");
+    }
+}

@@ -1,0 +1,172 @@
+//! Carries vmbind's operations out, from its text, so that the tables around a request are known.
+
+use crate::mapping::Mapping;
+use crate::text::{line, Kind, Line, Side};
+
+#[derive(Clone, Debug, PartialEq)]
+pub struct Operation {
+    pub kind: Kind,
+    /// The old mapping; for a map the new one.
+    pub named: Mapping,
+    pub keep: bool,
+    pub rests: Vec<(Side, Mapping)>,
+}
+
+/// A granted request: the mappings before it, its operations, and the mappings after them.
+#[derive(Clone, Debug, Default, PartialEq)]
+pub struct Grant {
+    pub before: Vec<Mapping>,
+    pub operations: Vec<Operation>,
+    pub after: Vec<Mapping>,
+}
+
+/// The first line that is bad, and what is wrong with it.
+#[derive(Debug, PartialEq)]
+pub struct BadLine {
+    pub line: usize,
+    pub what: String,
+}
+
+/// A grant whose operations are still to come, and what its line, at `line`, tells of it.
+#[derive(Default)]
+struct Open {
+    line: usize,
+    operations: u64,
+    count: u64,
+    grant: Grant,
+}
+
+/// The text so far: how many requests it grants, and the one that is wanted.
+#[derive(Default)]
+pub struct Replay {
+    pub grants: usize,
+    pub wanted: Option<Grant>,
+    table: Vec<Mapping>,
+    open: Option<Open>,
+    stopped: bool,
+}
+
+fn take_out(table: &mut Vec<Mapping>, old: &Mapping) -> Result<(), String> {
+    let place = table.iter().position(|mapping| mapping == old);
+    table.remove(place.ok_or("there is no such mapping in the table")?);
+    Ok(())
+}
+
+fn put_in(table: &mut Vec<Mapping>, new: Mapping) -> Result<(), String> {
+    let in_the_way = |mapping: &&Mapping| mapping.range.shares_byte_with(&new.range);
+    if let Some(old) = table.iter().find(in_the_way) {
+        return Err(format!("overlaps the mapping {}", old.range.shown()));
+    }
+    let place = table.partition_point(|mapping| mapping.range.start < new.range.start);
+    table.insert(place, new);
+    Ok(())
+}
+
+/// A rest begins or ends as the old mapping does, and shows what that showed.
+fn is_rest(old: &Mapping, side: Side, rest: &Mapping) -> bool {
+    let at_its_end = match side {
+        Side::Lower => rest.range.start == old.range.start,
+        Side::Upper => rest.range.end == old.range.end,
+    };
+    at_its_end
+        && rest.range.is_inside(&old.range)
+        && rest.object == old.object
+        && rest.offset == old.offset_of(rest.range.start)
+}
+
+impl Replay {
+    fn operation(&mut self, kind: Kind, named: Mapping, keep: bool) -> Result<(), String> {
+        let is_told = |open: &&mut Open| (open.grant.operations.len() as u64) < open.operations;
+        let open = self.open.as_mut().filter(is_told);
+        let open = open.ok_or("no granted line has told of this operation")?;
+        match kind {
+            Kind::Map => put_in(&mut self.table, named)?,
+            Kind::Remap | Kind::Unmap => take_out(&mut self.table, &named)?,
+        }
+        open.grant.operations.push(Operation {
+            kind,
+            named,
+            keep,
+            rests: Vec::new(),
+        });
+        Ok(())
+    }
+
+    fn rest(&mut self, side: Side, rest: Mapping) -> Result<(), String> {
+        let open = self.open.as_mut();
+        let last = open.and_then(|open| open.grant.operations.last_mut());
+        let last =
+            last.filter(|last| last.kind == Kind::Remap && is_rest(&last.named, side, &rest));
+        let last = last.ok_or("is no rest of a mapping that is remapped before it")?;
+        put_in(&mut self.table, rest)?;
+        last.rests.push((side, rest));
+        Ok(())
+    }
+
+    /// Ends the grant that is open: all that its line tells has to be there.
+    fn close(&mut self, wanted: Option<usize>) -> Result<(), BadLine> {
+        let Some(mut open) = self.open.take() else {
+            return Ok(());
+        };
+        let check = |what: &str, told: u64, there: usize| match told == there as u64 {
+            true => Ok(()),
+            false => Err(BadLine {
+                line: open.line,
+                what: format!("tells of {told} {what}, and there are {there}"),
+            }),
+        };
+        check("operations", open.operations, open.grant.operations.len())?;
+        check("mappings", open.count, self.table.len())?;
+        self.grants += 1;
+        if wanted.is_none_or(|number| number == self.grants) {
+            open.grant.after.clone_from(&self.table);
+            self.wanted = Some(open.grant);
+        }
+        Ok(())
+    }
+
+    /// Any line but an operation's.
+    fn answer(&mut self, number: usize, line: Line) {
+        match line {
+            Line::Space => self.table.clear(),
+            Line::Stopped => self.stopped = true,
+            Line::Granted(operations, count) => {
+                let mut grant = Grant::default();
+                grant.before.clone_from(&self.table);
+                self.open = Some(Open {
+                    line: number,
+                    operations,
+                    count,
+                    grant,
+                });
+            }
+            _ => (),
+        }
+    }
+}
+
+/// Replays the whole text. `wanted` counts the grants from 1; `None` is the last one.
+pub fn replay(text: &str, wanted: Option<usize>) -> Result<Replay, BadLine> {
+    let mut replay = Replay::default();
+    for (at, words) in text.lines().enumerate() {
+        let bad = |what| BadLine { line: at + 1, what };
+        if replay.stopped {
+            return Err(bad("vmbind has stopped before this line".to_string()));
+        }
+        match line(words).map_err(bad)? {
+            Line::Operation(kind, named, keep) => {
+                replay.operation(kind, named, keep).map_err(bad)?
+            }
+            Line::Rest(side, rest) => replay.rest(side, rest).map_err(bad)?,
+            answer => {
+                replay.close(wanted)?;
+                replay.answer(at + 1, answer);
+            }
+        }
+    }
+    replay.close(wanted)?;
+    Ok(replay)
+}
+
+#[cfg(test)]
+mod tests;

@@ -1,0 +1,122 @@
+//! Texts that replay, and each way in which one does not.
+
+use super::*;
+
+const WORKED: &str = include_str!("../../../../../examples/worked.out");
+
+fn mapping(words: [u64; 4]) -> Mapping {
+    Mapping::of(words).unwrap()
+}
+
+/// What is told of the worked example with one of its lines, counted from 1, as `text`.
+fn told(number: usize, text: &str) -> (usize, String) {
+    let mut lines: Vec<&str> = WORKED.lines().collect();
+    lines[number - 1] = text;
+    told_of(&lines.join("\n"))
+}
+
+fn told_of(text: &str) -> (usize, String) {
+    let bad = replay(text, None).err().expect("a line that is bad");
+    (bad.line, bad.what)
+}
+
+#[test]
+fn the_worked_example() {
+    let replayed = replay(WORKED, None).unwrap();
+    assert_eq!(replayed.grants, 2);
+    let grant = replayed.wanted.unwrap();
+    let old = mapping([0, 12288, 7, 0]);
+    let (lower, upper) = (mapping([0, 4096, 7, 0]), mapping([8192, 4096, 7, 8192]));
+    let new = mapping([4096, 4096, 9, 0]);
+    assert_eq!(grant.before, [old]);
+    assert_eq!(grant.after, [lower, new, upper]);
+    let [remap, map] = &grant.operations[..] else {
+        panic!("two operations");
+    };
+    assert_eq!((remap.kind, remap.named), (Kind::Remap, old));
+    assert_eq!(remap.rests, [(Side::Lower, lower), (Side::Upper, upper)]);
+    assert_eq!((map.kind, map.named), (Kind::Map, new));
+
+    let first = replay(WORKED, Some(1)).unwrap().wanted.unwrap();
+    assert_eq!((first.before, first.after), (vec![], vec![old]));
+    assert_eq!(replay(WORKED, Some(3)).unwrap().wanted, None);
+}
+
+#[test]
+fn every_example_replays() {
+    for (text, grants) in [
+        (include_str!("../../../../../examples/startup.out"), 10),
+        (include_str!("../../../../../examples/every-line.out"), 277),
+        (include_str!("../../../../../examples/full-table.out"), 261),
+        (include_str!("../../../../../examples/broken.out"), 1),
+        ("refused 1\nat 0 none\ncut 3\n", 0),
+        ("", 0),
+    ] {
+        let replayed = replay(text, None).unwrap();
+        assert_eq!(
+            (replayed.grants, replayed.wanted.is_some()),
+            (grants, grants > 0)
+        );
+    }
+}
+
+#[test]
+fn a_space_empties_the_table() {
+    let again = format!("{WORKED}{WORKED}granted 0 3\n");
+    let grant = replay(&again, Some(3)).unwrap().wanted.unwrap();
+    assert_eq!(grant.before, []);
+    let none = replay(&again, None).unwrap().wanted.unwrap();
+    assert_eq!((none.operations.len(), none.after.len()), (0, 3));
+}
+
+#[test]
+fn mappings_that_do_not_fit_the_table() {
+    let absent = "there is no such mapping in the table".to_string();
+    assert_eq!(told(5, "remap 0 8192 7 0 keep 0"), (5, absent.clone()));
+    assert_eq!(told(5, "unmap 0 12288 8 0 keep 0"), (5, absent));
+    let overlap = "overlaps the mapping 0x0 – 0x1000".to_string();
+    assert_eq!(told(8, "map 0 8192 9 0"), (8, overlap.clone()));
+    assert_eq!(told(7, "upper 0 12288 7 0"), (7, overlap));
+}
+
+#[test]
+fn rests_that_are_none() {
+    let what = "is no rest of a mapping that is remapped before it".to_string();
+    for rest in [
+        "upper 8192 8192 7 8192",
+        "upper 8192 4096 8 8192",
+        "upper 8192 4096 7 0",
+        "upper 4096 4096 7 4096",
+        "lower 8192 4096 7 8192",
+    ] {
+        assert_eq!(told(7, rest), (7, what.clone()));
+    }
+    assert_eq!(told(9, "upper 8192 4096 7 8192"), (9, what.clone()));
+    assert_eq!(told(2, "lower 0 4096 7 0"), (2, what));
+}
+
+#[test]
+fn numbers_that_differ() {
+    let mappings = "tells of 4 mappings, and there are 3".to_string();
+    assert_eq!(told(4, "granted 2 4"), (4, mappings));
+    let operations = "tells of 3 operations, and there are 2".to_string();
+    assert_eq!(told(4, "granted 3 3"), (4, operations));
+    let untold = "no granted line has told of this operation".to_string();
+    assert_eq!(told(4, "granted 1 2"), (8, untold.clone()));
+    assert_eq!(told(2, "at 0 none"), (3, untold));
+    let cut: Vec<&str> = WORKED.lines().take(7).collect();
+    let operations = "tells of 2 operations, and there are 1".to_string();
+    assert_eq!(told_of(&cut.join("\n")), (4, operations));
+}
+
+#[test]
+fn lines_of_no_kind() {
+    for text in ["", "granted", "map 0 4096 7 0 keep 0"] {
+        assert_eq!(told(4, text), (4, format!("'{text}' is no line of vmbind")));
+    }
+    let stopped = "vmbind has stopped before this line".to_string();
+    assert_eq!(
+        told_of(&format!("{WORKED}mark 96\nat 0 none\n")),
+        (11, stopped)
+    );
+}
