@@ -53,16 +53,16 @@ fn write_mapping(t: &mut [u64], i: usize, m: Mapping)
     words::store(t, 4 * i, &words)
 }
 
-// The first place from `first` on whose mapping does not fit between `from`, or its forerunner's end, and `stop`; `count` where all do.
-fn first_misfit(t: &[u64], first: usize, count: usize, from: u64, stop: u64) -> usize
-    requires { ⌜ (first ≤ count) × (4 * count ≤ length (now t)) × (stop ≤ limit) ⌝ }
-    ensures { λ i. ⌜ i ≡ first + badPlace (upTo stop) from (drop first (mappingsIn count (now (t .entry)))) ⌝ }
+// The lowest place of a mapping that breaks its rules or overlaps or precedes its forerunner; `count` where none does.
+fn first_bad(s: Space, t: &[u64], count: usize) -> usize
+    requires { ⌜ (all (spaceTests s) ≡ true) × (4 * count ≤ length (now t)) ⌝ }
+    ensures { λ i. ⌜ i ≡ badPlace s 0 (mappingsIn count (now (t .entry))) ⌝ }
 {
-    let mut place = first;
-    let mut end = from;
+    let mut place: usize = 0;
+    let mut end: u64 = 0;
     while place < count {
         let m = read_mapping(t, place);
-        if !rules::mapping_fits(end, stop, m) {
+        if !rules::mapping_fits(s, end, m) {
             return place;
         }
         end = m.address + m.size;
@@ -71,15 +71,49 @@ fn first_misfit(t: &[u64], first: usize, count: usize, from: u64, stop: u64) -> 
     place
 }
 
-// The lowest place of a mapping that breaks its rules or overlaps or precedes its forerunner; `count` where none does.
-// The mappings below the reservation come first, and all others have to be above it: one pass over the table.
+// All mappings keep their rules between `from` and `stop`, where nothing is reserved, if this says so: one look at their joined words.
+fn all_fit(t: &[u64], count: usize, from: u64, stop: u64) -> bool
+    requires { ⌜ (4 * count ≤ length (now t)) × (from ≤ limit) ⌝ }
+    ensures { λ b. ⌜ (b ≡ true → badPlace (upTo stop) from (mappingsIn count (now (t .entry))) ≡ count) ⌝ }
+{
+    let mut i: usize = 0;
+    let mut end = from;
+    let mut seen = rules::none_joined();
+    while i < count {
+        let m = read_mapping(t, i);
+        seen = rules::join(seen, end, m);
+        end = std::num::wrapping_add_u64(m.address, m.size);
+        i += 1;
+    }
+    rules::all_keep_rules(seen) & (end <= stop)
+}
+
+// No mapping of an ascending table shares a byte with the reservation if this says so: the first that ends behind its start starts at its
+// end or behind, and so do those behind it. The reservation then makes no difference to the check.
+fn spares_reservation(s: Space, t: &[u64], count: usize) -> bool
+    requires { ⌜ (all (spaceTests s) ≡ true) × Valid (now t) count ⌝ }
+    ensures { λ b. ⌜ (b ≡ true → badPlace s 0 (mappingsIn count (now (t .entry))) ≡ badPlace (upTo (s .start + s .size)) (s .start) (mappingsIn count (now (t .entry)))) ⌝ }
+{
+    let i = first_ending_behind(t, count, s.reserved.start);
+    if i == count {
+        return true;
+    }
+    let m = read_mapping(t, i);
+    let end = s.reserved.start + s.reserved.size;
+    end <= m.address
+}
+
+// The same. A quick pass tells a table that is in order; only any other is gone through mapping by mapping.
 fn bad_place(s: Space, t: &[u64], count: usize) -> usize
     requires { ⌜ (all (spaceTests s) ≡ true) × (4 * count ≤ length (now t)) ⌝ }
     ensures { λ i. ⌜ i ≡ badPlace s 0 (mappingsIn count (now (t .entry))) ⌝ }
 {
-    let above = rules::greater(s.start, s.reserved.start + s.reserved.size);
-    let below = first_misfit(t, 0, count, s.start, s.reserved.start);
-    first_misfit(t, below, count, above, s.start + s.size)
+    if all_fit(t, count, s.start, s.start + s.size) {
+        if spares_reservation(s, t, count) {
+            return count;
+        }
+    }
+    first_bad(s, t, count)
 }
 
 // Row 2. The count plays no part.

@@ -1,32 +1,30 @@
--- `table::first_misfit` meets its contract.
+-- `table::first_bad` meets its contract.
 -- Assumes nothing.
-use mathlib.Core.Path.{refl}
 use native.Mathlib.Omega.{arith}
-use Prim.Native.Nat.{_+_, _-_, _≤_}
-use lib.ListN.{drop}
+use Prim.Native.Nat.{_-_, _≤_}
 use Rattle.model.specs.Table.{mappingsIn, badPlace}
-use Rattle.rules.specs.Part.{upTo}
 use Rattle.rules.proofs.Laws.{held, failed}
 use Rattle.rules.proofs.Fits.{fits-end}
 use Rattle.table.proofs.Places.{BadFrom, bad-next, bad-here, bad-end}
+use Rattle.table.proofs.Spared.{space-ends}
 use borrow.Author.Needs.{needs}
-use Rattle.table.proofs.first_misfit.Statement.{statement}
-use Rattle.table.proofs.first_misfit.Tie as tie
+use Rattle.table.proofs.first_bad.Statement.{statement}
+use Rattle.table.proofs.first_bad.Tie as tie
 
 abbrev Inv-loop : tie.InvT-loop
-Inv-loop t first count from stop place₀ end₀ place end = (place ≤ count) × BadFrom (upTo stop) t count (first + badPlace (upTo stop) from (drop first (mappingsIn count t))) place end
+Inv-loop s t count place₀ end₀ place end = (place ≤ count) × BadFrom s t count (badPlace s 0 (mappingsIn count t)) place end
 
 abbrev μ-loop : tie.MeasureT-loop
-μ-loop t first count from stop place₀ end₀ place end = count - place
+μ-loop s t count place₀ end₀ place end = count - place
 
 loop-holds : tie.Need-loop-holds Inv-loop μ-loop
-loop-holds c = (search needs, record { is = refl })
+loop-holds c = (search needs, record { is = omega arith })
 
 read-mapping-requires : tie.Need-read-mapping-requires Inv-loop μ-loop
 read-mapping-requires c κs = search needs
 
 mapping-fits-requires : tie.Need-mapping-fits-requires Inv-loop μ-loop
-mapping-fits-requires c κs = c .before .before .before .before .pre .2
+mapping-fits-requires c κs = search needs
 
 returns : tie.Need-returns Inv-loop μ-loop
 returns c =
@@ -39,7 +37,8 @@ add-end c =
     let read = fit .before in
     let turn = read .before .before in
     let start = turn .before .before in
-    omega (arith, fits-end (turn .loop .end) (start .args .stop) (read .read-mapping .result) (start .pre .2) (held (fit .mapping-fits .ensures) (c .before .if1 .left)))
+    let s = start .args .s in
+    omega (arith, fits-end s (turn .loop .end) (read .read-mapping .result) (space-ends s (start .pre .0) .space) (held (fit .mapping-fits .ensures) (c .before .if1 .left)))
 
 add-place : tie.Need-add-place Inv-loop μ-loop
 add-place c = search needs
@@ -57,8 +56,8 @@ loop-again c =
 returns-2 : tie.Need-returns-2 Inv-loop μ-loop
 returns-2 c = bad-end (omega arith) (c .before .loop .inv .1)
 
-pub first-misfit-spec : {M : Type 1} → statement M
-first-misfit-spec =
+pub first-bad-spec : {M : Type 1} → statement M
+first-bad-spec =
     tie.close
     (tie.spec
     Inv-loop
