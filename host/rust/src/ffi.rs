@@ -113,6 +113,7 @@ extern "C" {
 ///
 /// assert_eq!(ffi::check_request(Space::new(0, 0x1_0000), &[0; 39]), 12);
 /// ```
+#[inline]
 pub fn check_request(space: Space, record: &[u8]) -> u32 {
     // SAFETY: a slice's pointer is not null, also where the slice is empty, and all its bytes can
     // be read. The call takes any numbers and writes nowhere.
@@ -136,6 +137,7 @@ pub fn check_request(space: Space, record: &[u8]) -> u32 {
 /// let shown = ffi::lookup(Space::new(0, 0x1_0000), &[0; 4], 0, 0x1000);
 /// assert_eq!((shown.refusal, shown.mapped), (0, 0));
 /// ```
+#[inline]
 pub fn lookup(space: Space, table: &[u64], count: u64, address: u64) -> Translation {
     // SAFETY: a slice's pointer is aligned and not null, also where the slice is empty, and all its
     // words can be read. The call takes any numbers and writes nowhere.
@@ -151,6 +153,7 @@ pub fn lookup(space: Space, table: &[u64], count: u64, address: u64) -> Translat
 /// let answer = ffi::bind(Space::new(0, 0x1_0000), &mut [0; 4], 0, &mut [0; 28], map);
 /// assert_eq!(answer, ffi::Answer { refusal: 0, place: 0, operations: 1, count: 1 });
 /// ```
+#[inline]
 pub fn bind(
     space: Space,
     table: &mut [u64],
@@ -185,6 +188,7 @@ pub fn bind(
 /// let answer = ffi::bind_record(Space::new(0, 0x1_0000), &mut [0; 4], 0, &mut [0; 28], &record);
 /// assert_eq!(answer, ffi::Answer { refusal: 0, place: 0, operations: 0, count: 0 });
 /// ```
+#[inline]
 pub fn bind_record(
     space: Space,
     table: &mut [u64],

@@ -179,6 +179,7 @@ pub struct Operations<'a> {
 
 impl<'a> Operations<'a> {
     /// The first `number` operations of a list that the library wrote.
+    #[inline]
     pub(crate) fn new(list: &'a [u64], number: u64) -> Operations<'a> {
         let written = &list[..number as usize * OPERATION_WORDS];
         Operations {

@@ -84,6 +84,7 @@ impl Refusal {
     }
 
     /// The refusal that an answer's first two words are, if they are one.
+    #[inline]
     pub(crate) fn check(number: u64, place: u64) -> Result<(), Refusal> {
         match number {
             0 => Ok(()),

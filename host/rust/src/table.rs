@@ -146,6 +146,7 @@ impl<'a> Table<'a> {
     /// assert_eq!(table.lookup(space, 0x3000), Ok(None));
     /// assert_eq!(table.lookup(Space::new(1, 2), 0x3000), Err(Refusal::BadSpace));
     /// ```
+    #[inline]
     pub fn lookup(&self, space: Space, address: u64) -> Result<Option<Translation>, Refusal> {
         let answer = ffi::lookup(space, self.words, self.count, address);
         Refusal::check(answer.refusal, answer.place)?;
@@ -189,6 +190,7 @@ impl<'a> Table<'a> {
     /// assert_eq!(refused, Some(Refusal::NoRoom));
     /// # Ok::<(), Refusal>(())
     /// ```
+    #[inline]
     pub fn bind<'o>(
         &mut self,
         space: Space,
@@ -225,6 +227,7 @@ impl<'a> Table<'a> {
     /// assert_eq!(refused, Some(Refusal::BadRecordLength));
     /// # Ok::<(), Refusal>(())
     /// ```
+    #[inline]
     pub fn bind_record<'o>(
         &mut self,
         space: Space,
@@ -236,6 +239,7 @@ impl<'a> Table<'a> {
     }
 
     /// Takes the count that an answer gives, and reads the operations that it wrote.
+    #[inline]
     fn take<'o>(
         &mut self,
         answer: ffi::Answer,
