@@ -2,13 +2,12 @@
 
 #![forbid(unsafe_code)]
 
-mod number;
 mod text;
 
 use std::ffi::{OsStr, OsString};
-use std::io::{self, Read, Write};
 use std::os::unix::ffi::OsStrExt;
 use std::process::ExitCode;
+use waylluqen_assemble::stream::{read, reason, tell, write};
 
 const USAGE: &str = "usage: assemble [-h] [file]\n";
 
@@ -68,41 +67,11 @@ fn asked(arguments: impl Iterator<Item = OsString>) -> Asked {
     }
 }
 
-/// The system's words for an error, without the number that Rust adds.
-fn reason(error: &io::Error) -> String {
-    let told = error.to_string();
-    match told.split_once(" (os error ") {
-        Some((words, _)) => words.to_string(),
-        None => told,
-    }
-}
-
-fn read(file: &OsStr) -> io::Result<Vec<u8>> {
-    if file != "-" {
-        return std::fs::read(file);
-    }
-    let mut bytes = Vec::new();
-    io::stdin().lock().read_to_end(&mut bytes)?;
-    Ok(bytes)
-}
-
 /// The script of a file, or what is wrong with it.
 fn script(file: &OsStr) -> Result<Vec<u8>, String> {
     let name = text::readable(file.as_bytes());
     let bytes = read(file).map_err(|error| format!("{name}: {}", reason(&error)))?;
     text::assemble(&bytes).map_err(|bad| format!("{name}:{}: {}", bad.line, bad.what))
-}
-
-fn write(bytes: &[u8]) -> Result<(), String> {
-    let mut out = io::stdout().lock();
-    out.write_all(bytes)
-        .and_then(|()| out.flush())
-        .map_err(|error| format!("standard output: {}", reason(&error)))
-}
-
-/// `eprint!` would panic where standard error takes nothing.
-fn tell(message: &str) {
-    let _ = io::stderr().write_all(message.as_bytes());
 }
 
 fn main() -> ExitCode {

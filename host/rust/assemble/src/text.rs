@@ -1,6 +1,6 @@
 //! The lines of a text, and the bytes of their records.
 
-use crate::number::{parse, parse_at};
+use waylluqen_assemble::number::{parse, parse_at};
 
 /// A number of a record: its name, and its bytes.
 type Field = (&'static str, usize);

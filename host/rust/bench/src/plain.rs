@@ -10,15 +10,13 @@ use std::ops::Range;
 use waylluqen::{Refusal, Request, Space, Translation, LIMIT, MAPPING_WORDS, MAX_OBJECT};
 use waylluqen::{OPERATION_WORDS, PAGE_SIZE};
 
+/// The places of mappings in a table, or why it is refused.
+type Places = Result<Range<usize>, Refusal>;
+
 /// A way to check the mappings of a table, and to find those that have a byte from `first` to
 /// `last`.
 pub trait Way {
-    fn hits(
-        bounds: &Bounds,
-        mappings: &[Mapping],
-        first: u64,
-        last: u64,
-    ) -> Result<Range<usize>, Refusal>;
+    fn hits(bounds: &Bounds, mappings: &[Mapping], first: u64, last: u64) -> Places;
 }
 
 /// Checks with a branch for each rule, then goes through the table once more.
@@ -42,12 +40,7 @@ fn find(mappings: &[Mapping], first: u64, last: u64) -> Range<usize> {
 }
 
 impl Way for Checked {
-    fn hits(
-        bounds: &Bounds,
-        mappings: &[Mapping],
-        first: u64,
-        last: u64,
-    ) -> Result<Range<usize>, Refusal> {
+    fn hits(bounds: &Bounds, mappings: &[Mapping], first: u64, last: u64) -> Places {
         let mut floor = bounds.start;
         for (place, mapping) in mappings.iter().enumerate() {
             match checked_end(bounds, floor, mapping) {
@@ -66,12 +59,7 @@ impl Way for Checked {
 }
 
 impl Way for Masked {
-    fn hits(
-        bounds: &Bounds,
-        mappings: &[Mapping],
-        first: u64,
-        last: u64,
-    ) -> Result<Range<usize>, Refusal> {
+    fn hits(bounds: &Bounds, mappings: &[Mapping], first: u64, last: u64) -> Places {
         let mut floor = bounds.start;
         for (place, mapping) in mappings.iter().enumerate() {
             let (holds, end) = masked_end(bounds, floor, mapping);
@@ -85,12 +73,7 @@ impl Way for Masked {
 }
 
 impl Way for Merged {
-    fn hits(
-        bounds: &Bounds,
-        mappings: &[Mapping],
-        first: u64,
-        last: u64,
-    ) -> Result<Range<usize>, Refusal> {
+    fn hits(bounds: &Bounds, mappings: &[Mapping], first: u64, last: u64) -> Places {
         let mut floor = bounds.start;
         let mut hits = 0..0;
         for (place, mapping) in mappings.iter().enumerate() {
@@ -133,12 +116,7 @@ fn lowest_bad_place(bounds: &Bounds, mappings: &[Mapping]) -> usize {
 }
 
 impl Way for Folded {
-    fn hits(
-        bounds: &Bounds,
-        mappings: &[Mapping],
-        first: u64,
-        last: u64,
-    ) -> Result<Range<usize>, Refusal> {
+    fn hits(bounds: &Bounds, mappings: &[Mapping], first: u64, last: u64) -> Places {
         let mut floor = bounds.start;
         let mut broken = 0;
         for mapping in mappings {

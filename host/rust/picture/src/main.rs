@@ -19,9 +19,9 @@ mod text;
 use mapping::Space;
 use picture::View;
 use replay::Grant;
-use std::ffi::{OsStr, OsString};
-use std::io::{self, Read, Write};
+use std::ffi::OsString;
 use std::process::ExitCode;
+use waylluqen_assemble::stream::{read, reason, tell, write};
 
 const USAGE: &str = "usage: picture [-h] [--space START SIZE [RESERVED-START RESERVED-SIZE]]
                [--grant N | --table] [file]
@@ -117,24 +117,6 @@ fn asked(mut words: &[OsString]) -> Result<Asked, String> {
     Ok(asked)
 }
 
-/// The system's words for an error, without the number that Rust adds.
-fn reason(error: &io::Error) -> String {
-    let told = error.to_string();
-    match told.split_once(" (os error ") {
-        Some((words, _)) => words.to_string(),
-        None => told,
-    }
-}
-
-fn read(file: &OsStr) -> io::Result<Vec<u8>> {
-    if file != "-" {
-        return std::fs::read(file);
-    }
-    let mut bytes = Vec::new();
-    io::stdin().lock().read_to_end(&mut bytes)?;
-    Ok(bytes)
-}
-
 /// The request that is asked for, and the picture's title.
 fn grant_of(asked: &Asked, name: &str, bytes: &[u8]) -> Result<(Grant, String), String> {
     if asked.table {
@@ -190,18 +172,6 @@ fn picture(asked: &Asked) -> Result<String, String> {
     }))
 }
 
-fn write(text: &str) -> Result<(), String> {
-    let mut out = io::stdout().lock();
-    out.write_all(text.as_bytes())
-        .and_then(|()| out.flush())
-        .map_err(|error| format!("standard output: {}", reason(&error)))
-}
-
-/// `eprint!` would panic where standard error takes nothing.
-fn tell(message: &str) {
-    let _ = io::stderr().write_all(message.as_bytes());
-}
-
 fn main() -> ExitCode {
     let words: Vec<OsString> = std::env::args_os().skip(1).collect();
     let asked = match asked(&words) {
@@ -215,7 +185,7 @@ fn main() -> ExitCode {
         true => Ok([USAGE, HELP].concat()),
         false => picture(&asked),
     };
-    if let Err(wrong) = text.and_then(|text| write(&text)) {
+    if let Err(wrong) = text.and_then(|text| write(text.as_bytes())) {
         tell(&format!("picture: {wrong}\n"));
         return ExitCode::from(FAILED);
     }

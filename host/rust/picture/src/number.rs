@@ -1,17 +1,9 @@
 //! Numbers as they are read, and as the picture shows them.
 
-/// A decimal number, or a hexadecimal one behind 0x; _ may stand between digits.
+/// A 64-bit number in the form that a script takes.
 pub fn parse(word: &str) -> Option<u64> {
-    let (digits, base) = match word.strip_prefix("0x") {
-        Some(digits) => (digits, 16),
-        None => (word, 10),
-    };
-    // An underscore at an end, or beside another one, leaves a part without digits.
-    let is_part = |part: &str| !part.is_empty() && part.chars().all(|c| c.is_digit(base));
-    if !digits.split('_').all(is_part) {
-        return None;
-    }
-    u64::from_str_radix(&digits.replace('_', ""), base).ok()
+    let number = waylluqen_assemble::number::parse(word).ok()?;
+    u64::try_from(number).ok()
 }
 
 /// An address or an offset, in the form that a script takes: 0x460_0000.
@@ -54,22 +46,10 @@ mod tests {
     use super::*;
 
     #[test]
-    fn decimal_and_hexadecimal() {
-        assert_eq!(parse("0"), Some(0));
-        assert_eq!(parse("65_536"), Some(65_536));
+    fn of_64_bits() {
         assert_eq!(parse("0xaB_cD"), Some(0xabcd));
         assert_eq!(parse("18446744073709551615"), Some(u64::MAX));
-        for word in [
-            "",
-            "_1",
-            "1__2",
-            "0x",
-            "0X1",
-            "1a",
-            "-1",
-            "+1",
-            "18446744073709551616",
-        ] {
+        for word in ["", "-1", "1a", "18446744073709551616"] {
             assert_eq!(parse(word), None, "{word}");
         }
     }
