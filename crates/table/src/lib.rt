@@ -94,12 +94,13 @@ fn spares_reservation(s: Space, t: &[u64], count: usize) -> bool
     requires { ⌜ (all (spaceTests s) ≡ true) × Valid (now t) count ⌝ }
     ensures { λ b. ⌜ (b ≡ true → badPlace s 0 (mappingsIn count (now (t .entry))) ≡ badPlace (upTo (s .start + s .size)) (s .start) (mappingsIn count (now (t .entry)))) ⌝ }
 {
-    let i = first_ending_behind(t, count, s.reserved.start);
+    let start = s.reserved.start;
+    let end = start + s.reserved.size;
+    let i = first_ending_behind(t, count, start);
     if i == count {
         return true;
     }
     let m = read_mapping(t, i);
-    let end = s.reserved.start + s.reserved.size;
     end <= m.address
 }
 

@@ -1,8 +1,7 @@
 -- `rules::all_keep_rules` meets its contract.
 -- Assumes nothing.
 use mathlib.Core.List.{[], _∷_}
-use lib.Dec.{leb}
-use Rattle.model.specs.Rules.{aligned, limit, lastObject}
+use Rattle.model.specs.Rules.{aligned}
 use Rattle.model.proofs.Tests.{tests, all-facts}
 use borrow.Author.Needs.{needs}
 use Rattle.rules.proofs.all_keep_rules.Statement.{statement}
@@ -14,9 +13,7 @@ is-aligned-requires c κs = search needs
 returns : tie.Need-returns
 returns c =
     let page = c .before .before .before in
-    let j = page .before .args .j in
-    let tested = aligned (j .bits) ∷ leb (j .bits) limit ∷ leb (j .objects) lastObject ∷ leb (j .differences) 9223372036854775807 ∷ [] in
-    λ e. let f = all-facts tested (rw (page .is-aligned .ensures) at e) in omega tests
+    λ e. let f = all-facts (aligned (page .before .args .j .bits) ∷ _ ∷ _ ∷ _ ∷ []) (rw (page .is-aligned .ensures) at e) in omega tests
 
 pub all-keep-rules-spec : {M : Type 1} → statement M
 all-keep-rules-spec = tie.close (tie.spec is-aligned-requires returns)
