@@ -112,21 +112,34 @@ pub fn print_script(measured: &Measured) {
     let Measured {
         requests,
         mappings,
+        rounds,
         program,
         calls,
-        outside,
     } = measured;
     println!("\nvmbind, {requests} requests on {mappings} mappings:\n");
-    head(&["", "median", "8 of 10 rounds"]);
-    let line = |what: &str, spread: &Spread, digits: usize| {
-        let Spread { low, median, high } = spread;
-        println!("| {what} | {median:.digits$} | {low:.digits$} to {high:.digits$} |");
+    head(&["", &format!("quickest of {rounds} rounds"), "median"]);
+    let line = |what: &str, quickest: f64, median: f64, digits: usize| {
+        println!("| {what} | {quickest:.digits$} | {median:.digits$} |");
     };
-    line("seconds, all of it", program, 3);
-    line("seconds, the library's calls alone", calls, 3);
-    line("share outside the calls", outside, 2);
-    println!(
-        "\n{:.0} records a second.",
-        *requests as f64 / program.median
+    let records = |seconds: f64| *requests as f64 / seconds;
+    let outside = |calls: f64, program: f64| 1.0 - calls / program;
+    line("seconds", program.quickest, program.median, 3);
+    line(
+        "seconds, the same calls of the library alone",
+        calls.quickest,
+        calls.median,
+        3,
+    );
+    line(
+        "share outside the calls",
+        outside(calls.quickest, program.quickest),
+        outside(calls.median, program.median),
+        2,
+    );
+    line(
+        "records a second",
+        records(program.quickest),
+        records(program.median),
+        0,
     );
 }

@@ -1,7 +1,6 @@
 //! The script program on a million requests, beside the library's calls for the same requests.
 
 use crate::line::space_and_mappings;
-use crate::timing::Spread;
 use std::fs::File;
 use std::hint::black_box;
 use std::io;
@@ -18,7 +17,7 @@ const REQUESTS: usize = 1_000_000;
 /// Of the 256 that the program's table has room for; a request adds up to two and takes up to one.
 const MAPPINGS: usize = 250;
 
-const ROUNDS: usize = 7;
+const ROUNDS: usize = 21;
 
 const MAP: u32 = 0;
 const UNMAP: u32 = 1;
@@ -95,14 +94,28 @@ fn time_program(script: &Path) -> io::Result<f64> {
     Ok(start.elapsed().as_secs_f64())
 }
 
-/// What is measured, of the whole script.
+/// Seconds for the whole script: in the quickest round, and in the middle one.
+pub struct Seconds {
+    pub quickest: f64,
+    pub median: f64,
+}
+
+impl Seconds {
+    fn of(mut rounds: Vec<f64>) -> Seconds {
+        rounds.sort_unstable_by(f64::total_cmp);
+        Seconds {
+            quickest: rounds[0],
+            median: rounds[rounds.len() / 2],
+        }
+    }
+}
+
 pub struct Measured {
     pub requests: usize,
     pub mappings: usize,
-    pub program: Spread,
-    pub calls: Spread,
-    /// The part of the program's time that its calls don't take.
-    pub outside: Spread,
+    pub rounds: usize,
+    pub program: Seconds,
+    pub calls: Seconds,
 }
 
 /// Writes the script to this file, and times both ways in turn.
@@ -111,17 +124,16 @@ pub fn measure(file: &Path) -> io::Result<Measured> {
     std::fs::write(file, script.bytes())?;
     let space = library::space(&script.space);
     let timed: Vec<_> = script.timed.iter().map(Record::encode).collect();
-    let mut rounds = Vec::new();
+    let (mut program, mut calls) = (Vec::new(), Vec::new());
     for _ in 0..ROUNDS {
-        let program = time_program(file)?;
-        rounds.push((program, time_calls(space, &script.first, &timed)));
+        program.push(time_program(file)?);
+        calls.push(time_calls(space, &script.first, &timed));
     }
-    let spread = |part: fn(&(f64, f64)) -> f64| Spread::of(rounds.iter().map(part).collect());
     Ok(Measured {
         requests: REQUESTS,
         mappings: MAPPINGS,
-        program: spread(|round| round.0),
-        calls: spread(|round| round.1),
-        outside: spread(|(program, calls)| 1.0 - calls / program),
+        rounds: ROUNDS,
+        program: Seconds::of(program),
+        calls: Seconds::of(calls),
     })
 }
