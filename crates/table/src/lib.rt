@@ -104,7 +104,7 @@ fn spares_reservation(s: Space, t: &[u64], count: usize) -> bool
     end <= m.address
 }
 
-// The same. A quick pass tells a table that is in order; only any other is gone through mapping by mapping.
+// What `first_bad` answers. A quick pass tells a table that is in order; only any other is gone through mapping by mapping.
 fn bad_place(s: Space, t: &[u64], count: usize) -> usize
     requires { ⌜ (all (spaceTests s) ≡ true) × (4 * count ≤ length (now t)) ⌝ }
     ensures { λ i. ⌜ i ≡ badPlace s 0 (mappingsIn count (now (t .entry))) ⌝ }
