@@ -96,11 +96,11 @@ fn spares_reservation(s: Space, t: &[u64], count: usize) -> bool
 {
     let start = s.reserved.start;
     let end = start + s.reserved.size;
-    let i = first_ending_behind(t, count, start);
-    if i == count {
+    let first = first_ending_behind(t, count, start);
+    if first == count {
         return true;
     }
-    let m = read_mapping(t, i);
+    let m = read_mapping(t, first);
     end <= m.address
 }
 
