@@ -9,7 +9,7 @@ use Rattle.model.specs.declared.Request.{Request}
 use Rattle.model.specs.declared.Space.{Space}
 use Rattle.model.specs.Rows.{Row, Reply, refused, answered, decide, verdict}
 use Rattle.model.specs.Rules.{formRows, requestRows}
-use Rattle.model.specs.Table.{Table, mappings, tableRows}
+use Rattle.model.specs.Table.{Table, mappings, operationsRow, tableRows}
 use Rattle.model.specs.Calls.{bytes, asked, requestOf, recordRows, decode, Outcome, outcomeFor, grantOf, roomRow, bindRows, bind}
 use Rattle.model.proofs.Rows.{andThen, decide-append, decide-verdict}
 use Rattle.change.specs.Change.{changed}
@@ -35,10 +35,10 @@ module _ (t : Table) (os : List ℕ) (r : Request) where
     bound-by e = rw e (outcome-then (checkedRows s t (length os) r) (roomRow t r ∷ []) (grantOf r (mappings t)))
 
     -- rows of a request's form, in front of the others
-    form-then : (ws : List Row) → outcomeFor (decide (ws ++ (tableRows s (length os) t ++ (requestRows s r ++ roomRow t r ∷ []))) (grantOf r (mappings t))) r t os
+    form-then : (ws : List Row) → outcomeFor (decide (ws ++ (tableRows s (operationsRow (length os) t ∷ []) t ++ (requestRows s r ++ roomRow t r ∷ []))) (grantOf r (mappings t))) r t os
         ≡ then (verdict ws) t os (λ _. bound s t os r)
     unfolding bound
-    form-then ws = rw (← append-assoc (tableRows s (length os) t) (requestRows s r) (roomRow t r ∷ [])) (outcome-then ws _ (grantOf r (mappings t)))
+    form-then ws = rw (← append-assoc (tableRows s (operationsRow (length os) t ∷ []) t) (requestRows s r) (roomRow t r ∷ [])) (outcome-then ws _ (grantOf r (mappings t)))
 
 module _ (s : Space) (t : Table) (os : List ℕ) where
   pub bind-by : (q : Numbers) {u : Reply (Unit {0})} → u ≡ verdict (formRows (asked (numbersOf q)))

@@ -7,7 +7,7 @@ use Rattle.model.specs.declared.Request.{Request}
 use Rattle.model.specs.declared.Space.{Space}
 use Rattle.model.specs.Rows.{Row, decide}
 use Rattle.model.specs.Rules.{requestRows}
-use Rattle.model.specs.Table.{Table, mappings, tableRows}
+use Rattle.model.specs.Table.{Table, mappings, operationsRow, tableRows}
 use Rattle.model.specs.Calls.{Asking, numbers, Outcome, outcomeFor, grantOf, roomRow}
 use Rattle.bind.specs.declared.Numbers.{Numbers}
 
@@ -17,7 +17,7 @@ numbersOf q = numbers (q .op) (q .address) (q .size) (q .object) (q .offset)
 
 -- the rows 1 to 10, with n words lent for operations
 abbrev pub checkedRows : Space → Table → ℕ → Request → List Row
-checkedRows s t n r = tableRows s n t ++ requestRows s r
+checkedRows s t n r = tableRows s (operationsRow n t ∷ []) t ++ requestRows s r
 
 -- the rows 1 to 11
 unfoldable pub bound : Space → Table → List ℕ → Request → Outcome

@@ -7,8 +7,9 @@ use model::Request;
 use model::Space;
 use model::Verdict;
 ghost use mathlib.Core.Path.{_≡_};
+ghost use mathlib.Core.List.{[], _∷_};
 ghost use Rattle.model.specs.Rows.{verdict};
-ghost use Rattle.model.specs.Table.{tableRows, lookupRows};
+ghost use Rattle.model.specs.Table.{operationsRow, tableRows};
 ghost use Rattle.model.specs.Calls.{bytes, bind, lookup, verdictReply, answerReply, foundReply};
 ghost use Rattle.table.specs.Places.{lent};
 ghost use Rattle.bind.specs.Bound.{numbersOf, checkedRows, bound};
@@ -25,7 +26,7 @@ pub struct Numbers {
 
 // Rows 1, 2, 4 and 5.
 fn lookup_verdict(s: Space, table: &[u64], count: usize) -> Verdict
-    ensures { λ v. ⌜ verdictReply v ≡ verdict (lookupRows s (lent (now (table .entry)) count)) ⌝ }
+    ensures { λ v. ⌜ verdictReply v ≡ verdict (tableRows s [] (lent (now (table .entry)) count)) ⌝ }
 {
     if !rules::space_keeps_rules(s) {
         return Verdict::Refuse(Refusal::BadSpace);
@@ -45,7 +46,7 @@ pub fn lookup(s: Space, table: &[u64], count: usize, x: u64) -> Found
 
 // Rows 1 to 5, with so many words lent for operations.
 fn lent_verdict(s: Space, table: &[u64], count: usize, operation_words: usize) -> Verdict
-    ensures { λ v. ⌜ verdictReply v ≡ verdict (tableRows s «operation_words» (lent (now (table .entry)) count)) ⌝ }
+    ensures { λ v. ⌜ verdictReply v ≡ verdict (tableRows s (operationsRow «operation_words» (lent (now (table .entry)) count) ∷ []) (lent (now (table .entry)) count)) ⌝ }
 {
     if !rules::space_keeps_rules(s) {
         return Verdict::Refuse(Refusal::BadSpace);

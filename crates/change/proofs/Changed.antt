@@ -13,7 +13,8 @@ use Rattle.model.specs.declared.Request.{Request}
 use Rattle.model.specs.Rules.{stop}
 use Rattle.model.specs.Rows.{refused, answered, decide}
 use Rattle.model.specs.Table.{mappingsIn, written}
-use Rattle.model.specs.Cut.{after, operations, operationWords}
+use Rattle.model.specs.Cut.{after, operations}
+use Rattle.model.specs.Layout.{operationWords}
 use Rattle.model.proofs.Operations.{operations-words}
 use Rattle.words.specs.Words.{stored}
 use Rattle.words.proofs.Stored.{stored-is}
@@ -26,7 +27,7 @@ use Rattle.change.proofs.Hits.{after-places, operations-places, length-
 -- what the two searches answer are the places
 abbrev pub placed : {r : Request} {ws : List ℕ} {n lo hi last k : ℕ} → Ready r (lent ws n) k → lo ≡ firstWhere (endsBehind (r .address)) (mappingsIn n ws)
     → last ≡ stop r - 1 → hi ≡ lo + firstWhere (startsBehind last) (drop lo (mappingsIn n ws)) → Placed r ws lo hi
-placed {n = n} g e f d = record { count = n; table = g .table; some = g .some; stop-most = g .stop-most; low = e; high = rw f at d }
+placed {n = n} g e f d = record { count = n; table = g .table; not-empty = g .not-empty; stop-most = g .stop-most; low = e; high = rw f at d }
 
 module _ {r : Request} {ws : List ℕ} {lo hi : ℕ} (p : Placed r ws lo hi) (os : List ℕ)
     {new : List Mapping} (e : new ≡ after r (between ws lo hi)) {c : ℕ} (d : c ≡ length new) where

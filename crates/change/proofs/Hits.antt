@@ -17,7 +17,7 @@ use Rattle.model.specs.Cut.{lowerPart, upperPart, prepend, below, above, mappin
 use Rattle.model.specs.Exactly.{Each}
 use Rattle.model.proofs.Actions.{each-map}
 use Rattle.model.proofs.Store.{length-mappings}
-use Rattle.model.proofs.Operations.{prepend-most}
+use Rattle.model.proofs.Counts.{prepend-most}
 use Rattle.model.proofs.Window.{below-append, above-append, below-under, below-over, above-under, above-over}
 use Rattle.model.proofs.Run.{Run, run-from, below-none}
 use Rattle.model.proofs.Chain.{chain-run}
@@ -62,7 +62,7 @@ module _ {r : Request} {ws : List ℕ} {lo hi : ℕ} (p : Placed r ws lo hi) whe
   pub cuttable : {m : Mapping} (i : ℕ) → i < n → m ≡ mappingAt ws i → Cuttable r m
   cuttable i h e =
       let m = valid-at (p .table) i h e in
-      record { some = p .some; stop-most = p .stop-most; end-most = m .0; offset-most = m .1 }
+      record { not-empty = p .not-empty; stop-most = p .stop-most; end-most = m .0; offset-most = m .1 }
 
   from-low : drop lo ms ≡ hit ++ drop hi ms
   from-low = from-between ws lo n hi (low-high .0) (low-high .1)
@@ -93,7 +93,7 @@ module _ {r : Request} {ws : List ℕ} {lo hi : ℕ} (p : Placed r ws lo hi) whe
   hit-starts =
       let l : length hit ≡ k = length-between ws lo hi ∙ omega (arith, p .high) in
       let e : take k (drop lo ms) ≡ hit = ap (take k) from-low ∙ subst (λ (i : ℕ). take i (hit ++ drop hi ms) ≡ hit) l (take-append-seam hit (drop hi ms)) in
-      each-map (λ m. startsBehind (b - 1) m ≡ false) (λ m. m .address < b) hit (λ m q. let h = ltb-false (b - 1) (m .address) q in omega (arith, h, p .some))
+      each-map (λ m. startsBehind (b - 1) m ≡ false) (λ m. m .address < b) hit (λ m q. let h = ltb-false (b - 1) (m .address) q in omega (arith, h, p .not-empty))
       (subst (Each (λ m. startsBehind (b - 1) m ≡ false)) e (first-before (startsBehind (b - 1)) (drop lo ms)))
 
   -- ── what the request makes of the table ──
@@ -135,7 +135,7 @@ module _ {r : Request} {ws : List ℕ} {lo hi : ℕ} (p : Placed r ws lo hi) whe
 
       all : (hs : List Mapping) → Each (λ m. (a < end m) × (0 < m .size)) hs → Each (λ m. m .address < b) hs → Each (λ m. spared r m ≡ false) hs
       all [] h g = tt
-      all (m ∷ hs) h g = (lt-leb (min (end m) b) (max (m .address) a) (omega (arith, h .0, g .0, p .some)), all hs (h .1) (g .1))
+      all (m ∷ hs) h g = (lt-leb (min (end m) b) (max (m .address) a) (omega (arith, h .0, g .0, p .not-empty)), all hs (h .1) (g .1))
 
   pub operations-places : operations r ms ≡ operationsFor r hit
   unfolding operations operationsFor hitOperations

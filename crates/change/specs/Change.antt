@@ -15,7 +15,7 @@ use Rattle.table.specs.Places.{firstWhere, startsBehind, endsBehind, Valid}
 -- a request in order on a table that passed its check; and where the table has room, n words have room for the operations
 pub record Ready (r : Request) (t : Table) (n : ℕ) : Type 0 where
   pub table : Valid (t .words) (t .count)
-  pub some : 0 < r .size
+  pub not-empty : 0 < r .size
   pub stop-most : stop r ≤ limit
   pub room : length (after r (mappings t)) ≤ capacity t → 14 * length (operations r (mappings t)) ≤ n
 
@@ -24,7 +24,7 @@ pub record Ready (r : Request) (t : Table) (n : ℕ) : Type 0 where
 pub record Placed (r : Request) (ws : List ℕ) (lo hi : ℕ) : Type 0 where
   pub count : ℕ
   pub table : Valid ws count
-  pub some : 0 < r .size
+  pub not-empty : 0 < r .size
   pub stop-most : stop r ≤ limit
   pub low : lo ≡ firstWhere (endsBehind (r .address)) (mappingsIn count ws)
   pub high : hi ≡ lo + firstWhere (startsBehind (stop r - 1)) (drop lo (mappingsIn count ws))

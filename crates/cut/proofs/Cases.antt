@@ -12,8 +12,9 @@ use Rattle.model.specs.declared.Operation.{Operation}
 use Rattle.model.specs.declared.Operation.the-variants.{Map, Remap, Unmap}
 use Rattle.model.specs.Rows.{choose}
 use Rattle.model.specs.Rules.{end, stop}
-use Rattle.model.specs.Cut.{lowerPart, upperPart, keepMark, operationFor, operationOf, operationWords}
-use Rattle.cut.specs.Operations.{none, lowerOf, upperOf, parts}
+use Rattle.model.specs.Cut.{lowerPart, upperPart, keepMark, operationFor, operationOf}
+use Rattle.model.specs.Layout.{operationWords}
+use Rattle.cut.specs.Operations.{absentRest, lowerOf, upperOf, parts}
 
 -- the upper rest, put together: x is the range's end
 pub upper-is : (r : Request) (m : Mapping) {x from size offset : ℕ} → from ≡ max x (m .address) → size ≡ end m - from
@@ -55,7 +56,7 @@ module _ (r : Request) (m : Mapping) {k : Bool} {l u : Mapping} (ek : k ≡ keep
   is-both p q = for-both k m l u p q ∙ by-parts
 
 module _ {m a b : Mapping} {o : Operation} where
-  pub map-words : a ≡ none → b ≡ none → o ≡ Map m → parts 0 0 m a b ≡ operationWords o
+  pub map-words : a ≡ absentRest → b ≡ absentRest → o ≡ Map m → parts 0 0 m a b ≡ operationWords o
   map-words p q e = rw (p, q, e)
 
   pub remap-words : {n : ℕ} (k : Bool) (rs : Rests) → n ≡ choose k 1 0 → a ≡ lowerOf rs → b ≡ upperOf rs → o ≡ Remap k m rs → parts 1 n m a b ≡ operationWords o
@@ -66,5 +67,5 @@ module _ {m a b : Mapping} {o : Operation} where
       go (Upper u) = refl
       go (Both l u) = refl
 
-  pub unmap-words : {n : ℕ} (k : Bool) → n ≡ choose k 1 0 → a ≡ none → b ≡ none → o ≡ Unmap k m → parts 2 n m a b ≡ operationWords o
+  pub unmap-words : {n : ℕ} (k : Bool) → n ≡ choose k 1 0 → a ≡ absentRest → b ≡ absentRest → o ≡ Unmap k m → parts 2 n m a b ≡ operationWords o
   unmap-words k f p q e = rw (f, p, q, e)

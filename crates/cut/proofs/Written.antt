@@ -9,7 +9,9 @@ use Rattle.model.specs.declared.Mapping.{Mapping}
 use Rattle.model.specs.declared.Request.{Request}
 use Rattle.model.specs.declared.Operation.{Operation}
 use Rattle.model.specs.declared.Operation.the-variants.{Map}
-use Rattle.model.specs.Cut.{mappingOf, new, operationOf, operationWords}
+use Rattle.model.specs.Cut.{mappingOf, new, operationOf}
+use Rattle.model.specs.Layout.{operationWords}
+use Rattle.model.proofs.New.{new-map, new-unmap}
 use Rattle.model.proofs.Operations.{flatMap-append, operations-words}
 use Rattle.words.specs.Words.{stored}
 use Rattle.words.proofs.Stored.{stored-none, stored-behind}
@@ -64,17 +66,10 @@ length-operations r hs = length-append (hitOperations r hs) (map Map (new r)) �
 pub room-each : {r : Request} {ws : List ℕ} {lo hi n : ℕ} → Hits r ws lo hi n → 14 * (hi - lo) + 14 * length (new r) ≤ n
 room-each {r} {ws} {lo} {hi} {n} h = omega (arith, h .room, length-operations r (between ws lo hi), length-between ws lo hi)
 
--- by the op: a map's own operation, or none
-pub new-map : (r : Request) → r .op ≡ 0 → new r ≡ mappingOf r ∷ []
-new-map r e = rw e
-
-pub new-none : (r : Request) → (r .op ≡ 0 → ⊥) → new r ≡ []
-new-none r n = let e : r .op ≡ suc (r .op - 1) = omega (arith, n) in rw e
-
 module _ (r : Request) (hs : List Mapping) (vs : List ℕ) {us : List ℕ} {n : ℕ} (g : us ≡ stored vs 0 (flatMap operationWords (hitOperations r hs))) (l : length hs ≡ n) where
   pub unmap-written : (r .op ≡ 0 → ⊥) → (n ≡ length (operationsFor r hs)) × (us ≡ stored vs 0 (flatMap operationWords (operationsFor r hs)))
   unfolding operationsFor
-  unmap-written e = (omega (arith, length-operations r hs, ap length (new-none r e)), g ∙ simp (new-none r e, append-nil))
+  unmap-written e = (omega (arith, length-operations r hs, ap length (new-unmap r e)), g ∙ simp (new-unmap r e, append-nil))
 
   pub map-written : {ts : List ℕ} → r .op ≡ 0 → ts ≡ stored us (14 * n) (operationWords (Map (mappingOf r)))
       → (n + 1 ≡ length (operationsFor r hs)) × (ts ≡ stored vs 0 (flatMap operationWords (operationsFor r hs)))

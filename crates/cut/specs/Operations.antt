@@ -16,22 +16,22 @@ use Rattle.table.specs.Places.{between, Valid}
 
 -- the range is not empty, and no sum of a cut is large
 pub record Cuttable (r : Request) (m : Mapping) : Type 0 where
-  pub some : 0 < r .size
+  pub not-empty : 0 < r .size
   pub stop-most : stop r ≤ limit
   pub end-most : end m ≤ limit
   pub offset-most : m .offset + m .size ≤ limit
 
 -- an absent rest as a mapping
-abbrev pub none : Mapping
-none = record { address = 0; size = 0; object = 0; offset = 0 }
+abbrev pub absentRest : Mapping
+absentRest = record { address = 0; size = 0; object = 0; offset = 0 }
 
 abbrev pub lowerOf : Rests → Mapping
 lowerOf (Lower l) = l
-lowerOf (Upper u) = none
+lowerOf (Upper u) = absentRest
 lowerOf (Both l u) = l
 
 abbrev pub upperOf : Rests → Mapping
-upperOf (Lower l) = none
+upperOf (Lower l) = absentRest
 upperOf (Upper u) = u
 upperOf (Both l u) = u
 
@@ -52,6 +52,6 @@ pub record Hits (r : Request) (ws : List ℕ) (lo hi n : ℕ) : Type 0 where
   pub table : Valid ws count
   pub low : lo ≤ hi
   pub high : hi ≤ count
-  pub some : 0 < r .size
+  pub not-empty : 0 < r .size
   pub stop-most : stop r ≤ limit
   pub room : 14 * length (operationsFor r (between ws lo hi)) ≤ n

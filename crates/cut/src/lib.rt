@@ -10,10 +10,11 @@ ghost use lib.Dec.{leb};
 ghost use lib.ListN.{length};
 ghost use Rattle.model.specs.Rows.{choose};
 ghost use Rattle.model.specs.Rules.{limit, stop};
-ghost use Rattle.model.specs.Cut.{lowerPart, upperPart, mappingOf, keepMark, operationOf, operationWords};
+ghost use Rattle.model.specs.Cut.{lowerPart, upperPart, mappingOf, keepMark, operationOf};
+ghost use Rattle.model.specs.Layout.{operationWords};
 ghost use Rattle.words.specs.Words.{stored};
 ghost use Rattle.table.specs.Places.{between};
-ghost use Rattle.cut.specs.Operations.{Cuttable, parts, lowerOf, upperOf, none, hitOperations, operationsFor, Hits};
+ghost use Rattle.cut.specs.Operations.{Cuttable, parts, lowerOf, upperOf, absentRest, hitOperations, operationsFor, Hits};
 
 // The words of an operation, and its kinds.
 const OPERATION_WORDS: usize = 14;
@@ -115,7 +116,7 @@ fn operation_of(r: Request, m: Mapping) -> Operation
 
 // An absent rest.
 fn absent() -> Mapping
-    ensures { λ m. ⌜ m ≡ none ⌝ }
+    ensures { λ m. ⌜ m ≡ absentRest ⌝ }
 {
     Mapping {
         address: 0,

@@ -5,11 +5,11 @@ use mathlib.Core.List.{List, [], _∷_}
 use Prim.Native.Nat.{ℕ, zero, suc, _+_, _-_, _≤_, _<_, min, max}
 use native.Mathlib.Omega.{arith}
 use Rattle.model.specs.Prelude.{Space, Request}
-use Rattle.model.specs.Rules.{stop, objectTests, offsetTests, formRows, requestRows}
+use Rattle.model.specs.Rules.{stop, objectTests, offsetTests}
 use Rattle.model.specs.Exactly.{Each, Multiple}
 use Rattle.model.specs.Demand3.{piece, pieceOffset}
 use Rattle.model.proofs.Tests.{Alls, tests}
-use Rattle.model.proofs.Rows.{Passed}
+use Rattle.model.proofs.Groups.{FormPassed, RequestPassed}
 use Rattle.model.proofs.Cuts.{piecesFrom, pieces, CutsFrom, Cuts}
 use Rattle.model.proofs.Pieces.{cuts-end}
 
@@ -30,26 +30,30 @@ pub record Asked (s : Space) (r : Request) : Type 0 where
   pub object-fits : Alls (objectTests (r .op) r)
   pub offset-fits : Alls (offsetTests (r .op) r)
 
-pub asked : (s : Space) (r : Request) → Passed (formRows r) → Passed (requestRows s r) → Asked s r
-unfolding formRows requestRows
-asked s r k h = record {
-  form = omega (tests, k);
-  address-multiple = omega (tests, h .0);
-  size-multiple = omega (tests, h .0);
-  offset-multiple = omega (tests, h .0);
-  not-empty = omega (tests, h .0);
-  low = omega (tests, h .1 .0);
-  high = omega (tests, h .1 .0);
-  unreserved = omega (tests, h .1 .1 .0);
-  object-fits = h .1 .1 .1 .0;
-  offset-fits = h .1 .1 .1 .1 .0;
+pub asked-by : {s : Space} {r : Request} → FormPassed r → RequestPassed s r → Asked s r
+asked-by k h = record {
+  form = omega (tests, k .op, k .flags);
+  address-multiple = omega (tests, h .alignment);
+  size-multiple = omega (tests, h .alignment);
+  offset-multiple = omega (tests, h .alignment);
+  not-empty = omega (tests, h .alignment);
+  low = omega (tests, h .range);
+  high = omega (tests, h .range);
+  unreserved = omega (tests, h .reservation);
+  object-fits = h .object;
+  offset-fits = h .offset;
 }
 
-pub asked-rows : (s : Space) (r : Request) → Asked s r → Passed (formRows r) × Passed (requestRows s r)
-unfolding formRows requestRows
-asked-rows s r a = (
-  omega (tests, a .form),
-  (omega (tests, a), (omega (tests, a .low, a .high), (omega (tests, a .unreserved), (a .object-fits, (a .offset-fits, tt))))),
+pub by-asked : {s : Space} {r : Request} → Asked s r → FormPassed r × RequestPassed s r
+by-asked a = (
+  record { op = omega (tests, a .form); flags = omega (tests, a .form) },
+  record {
+    alignment = omega (tests, a);
+    range = omega (tests, a .low, a .high);
+    reservation = omega (tests, a .unreserved);
+    object = a .object-fits;
+    offset = a .offset-fits;
+  },
 )
 
 -- ── by the op ──

@@ -11,7 +11,7 @@ use Rattle.model.specs.Prelude.{Space, Nothing}
 use Rattle.model.specs.Rows.{refused, answered, decide}
 use Rattle.model.specs.Rules.{byNumbers, formRows, requestRows}
 use Rattle.model.specs.Calls.{spaceOf, checkRows, checkRequest, littleEndian, requestOf, recordRows, bytesOf, recordOf, lookup}
-use Rattle.model.specs.Table.{Table, mappingsIn, badPlace, lookupRows}
+use Rattle.model.specs.Table.{Table, mappingsIn, badPlace, tableRows}
 use Rattle.model.specs.Cut.{translate}
 use Rattle.model.specs.Exactly.{Each}
 use Rattle.model.proofs.Tests.{and-both}
@@ -111,9 +111,9 @@ abbrev zeros : ℕ → Table
 zeros n = record { words = replicate n 0; count = 0 }
 
 longest : lookup plain (zeros 2048) 0 ≡ answered Nothing
-unfolding lookup lookupRows decide badPlace mappingsIn translate
+unfolding lookup tableRows decide badPlace mappingsIn translate
 longest = refl
 
 too-long : lookup plain (zeros 2052) 0 ≡ refused 2 0
-unfolding lookup lookupRows decide
+unfolding lookup tableRows decide
 too-long = refl

@@ -8,15 +8,16 @@ use native.Mathlib.Omega.{arith}
 use lib.ListN.{length, drop, replicate}
 use lib.Seq.{drop-append-seam}
 use Rattle.model.specs.Prelude.{Space, Mapping, Request, Grant}
-use Rattle.model.specs.Rows.{answered, decide}
+use Rattle.model.specs.Rows.{answered}
 use Rattle.model.specs.Rules.{stop}
-use Rattle.model.specs.Table.{Table, capacity, mappings, wordsOf, written, tableRows, lookupRows}
+use Rattle.model.specs.Table.{Table, capacity, mappings, wordsOf, written, tableRows}
 use Rattle.model.specs.Cut.{after, translate}
 use Rattle.model.specs.Calls.{asked, Outcome, outcomeFor, tableAfter, lookup}
 use Rattle.model.specs.Exactly.{TableRules}
 use Rattle.model.specs.Grants.{Effect, Demand2}
 use Rattle.model.specs.Demand3.{Holds}
-use Rattle.model.proofs.Rows.{past}
+use Rattle.model.proofs.Rows.{passes}
+use Rattle.model.proofs.Groups.{passed-table, none-between}
 use Rattle.model.proofs.Table.{top, chain-rules}
 use Rattle.model.proofs.Store.{rewritten, holds-rewritten, holds-mappings, length-words}
 use Rattle.model.proofs.Ask.{Asked}
@@ -25,8 +26,8 @@ use Rattle.model.proofs.Translate.{translate-under, translate-over, tra
 
 -- a look-up on a table that passes 1 to 5 is answered
 lookup-good : (s : Space) (n : ℕ) (t : Table) (x : ℕ) → Good s n t → lookup s t x ≡ answered (translate (mappings t) x)
-unfolding lookup lookupRows tableRows decide
-lookup-good s n t x g = past (lookupRows s t) [] (translate (mappings t) x) (g .0, (g .1 .0, g .1 .1 .1))
+unfolding lookup
+lookup-good s n t x g = passes (tableRows s [] t) (translate (mappings t) x) (passed-table (none-between g))
 
 -- the words behind the last mapping
 zeros-behind : (n : ℕ) (ms : List Mapping) → drop (4 * length ms) (written n ms) ≡ replicate (n - 4 * length ms) 0

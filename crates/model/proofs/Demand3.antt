@@ -10,7 +10,7 @@ use lib.ListN.{length}
 use Rattle.model.specs.Prelude.{Space, Request, Grant}
 use Rattle.model.specs.Rows.{Row, Reply, decide}
 use Rattle.model.specs.Rules.{formRows, requestRows}
-use Rattle.model.specs.Table.{Table, capacity, mappings, tableRows}
+use Rattle.model.specs.Table.{Table, capacity, mappings, operationsRow, tableRows}
 use Rattle.model.specs.Cut.{after}
 use Rattle.model.specs.Calls.{asked, recordRow, roomRow, bindRows, grantOf, outcomeFor, bind, tableAfter}
 use Rattle.model.specs.Exactly.{_∈_, WellFormed, refusal}
@@ -20,7 +20,8 @@ use Rattle.model.proofs.Tests.{tests}
 use Rattle.model.proofs.Rows.{passed-split, passed-join, not-both}
 use Rattle.model.proofs.Store.{holds-rewritten, holds-mappings, holds-count, holds-capacity, holds-again, holds-same}
 use Rattle.model.proofs.Exactly.{record-says}
-use Rattle.model.proofs.Ask.{asked as asked-of, asked-rows}
+use Rattle.model.proofs.Groups.{table-passed, passed-table, form-passed, passed-form, request-passed, passed-request}
+use Rattle.model.proofs.Ask.{asked-by, by-asked}
 use Rattle.model.proofs.Granted.{Good, table-chain, after-chain, good-rewritten}
 use Rattle.model.proofs.Service.{Service, ForPieces, GrantedIn, InPlace, View, StateLaws, CallLaws}
 use Rattle.model.proofs.ByRows.{ByRows, calls-by-rows}
@@ -56,7 +57,7 @@ module _ (s : Space) (n : ℕ) where
 
   -- room is the last row
   rows : (t : Table) (c : Call) → bindRows s t (length (c .operations)) (c .asking)
-      ≡ (recordRow (c .asking) ∷ (formRows (asked (c .asking)) ++ (tableRows s (length (c .operations)) t ++ requestRows s (asked (c .asking)))))
+      ≡ (recordRow (c .asking) ∷ (formRows (asked (c .asking)) ++ (tableRows s (operationsRow (length (c .operations)) t ∷ []) t ++ requestRows s (asked (c .asking)))))
       ++ roomRow t (asked (c .asking)) ∷ []
   unfolding bindRows
   rows t c = simp append-assoc
@@ -66,7 +67,7 @@ module _ (s : Space) (n : ℕ) where
   by-rows t c p = record {
     request = r;
     asks = refl;
-    front = recordRow (c .asking) ∷ (formRows r ++ (tableRows s k t ++ requestRows s r));
+    front = recordRow (c .asking) ∷ (formRows r ++ (table ++ requestRows s r));
     room-number = 11;
     room-test = leb (length (after r (mappings t))) (capacity t);
     Value = Grant;
@@ -80,14 +81,16 @@ module _ (s : Space) (n : ℕ) where
     wants = refl;
     leaves = λ n p. refl;
     says = λ h.
-        let a = passed-split (formRows r) (tableRows s k t ++ requestRows s r) (h .1) in
-        let b = passed-split (tableRows s k t) (requestRows s r) (a .1) in
-        (subst (λ (n : ℕ). Good s n t) (p .1) (b .0), asked-of s r (a .0) (b .1));
+        let a = passed-split (formRows r) (table ++ requestRows s r) (h .1) in
+        let b = passed-split table (requestRows s r) (a .1) in (
+          subst (λ (n : ℕ). Good s n t) (p .1) (table-passed s (operationsRow k t ∷ []) t (b .0)),
+          asked-by (form-passed r (a .0)) (request-passed s r (b .1)),
+        );
     passes = λ g a.
-        let b = asked-rows s r a in (
+        let b = by-asked a in (
           record-says (c .asking) .1 (p .0),
-          passed-join (formRows r) (tableRows s k t ++ requestRows s r) (b .0)
-              (passed-join (tableRows s k t) (requestRows s r) (subst (λ (n : ℕ). Good s n t) (sym (p .1)) g) (b .1)),
+          passed-join (formRows r) (table ++ requestRows s r) (passed-form (b .0))
+              (passed-join table (requestRows s r) (passed-table (subst (λ (n : ℕ). Good s n t) (sym (p .1)) g)) (passed-request (b .1))),
         );
     room = λ h. omega (tests, h);
     has-room = λ h. omega (tests, h);
@@ -100,6 +103,9 @@ module _ (s : Space) (n : ℕ) where
 
       k : ℕ
       k = length (c .operations)
+
+      table : List Row
+      table = tableRows s (operationsRow k t ∷ []) t
 
   calls : CallLaws after binding view s
   calls = calls-by-rows after binding view s by-rows

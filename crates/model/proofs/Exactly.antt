@@ -1,51 +1,26 @@
 -- Each public call gives a line's answer exactly if the line's rule is broken and no line's above it.
 -- Assumes nothing.
 use mathlib.Core.Path.{_≡_, refl, sym, ap, subst, _∙_}
-use mathlib.Core.Logic.{_↔_, inl, inr}
-use mathlib.Core.List.{List, [], _∷_, _++_, flatMap, List·Memᴰ·head, List·Memᴰ·tail}
+use mathlib.Core.Logic.{_⊎_, _↔_, inl, inr}
+use mathlib.Core.List.{List, [], _∷_, _++_, flatMap, append-nil, List·Memᴰ·head, List·Memᴰ·tail}
 use Prim.Native.Nat.{ℕ, _+_, _≤_, _<_}
 use lib.ListN.{length}
 use Rattle.model.specs.Prelude.{Space, Request, Shown, Grant}
 use Rattle.model.specs.Rows.{Row, Reply, refused, answered, decide, numberOf}
-use Rattle.model.specs.Rules.{formRows, requestRows}
-use Rattle.model.specs.Table.{Table, capacity, mappings, tableRows, lookupRows}
-use Rattle.model.specs.Cut.{new, operations, old, rests, translate}
+use Rattle.model.specs.Rules.{requestRows}
+use Rattle.model.specs.Table.{Table, mappings, operationsRow, tableRows}
+use Rattle.model.specs.Cut.{new, after, operations, old, rests, translate}
 use Rattle.model.specs.Calls.{Asking, numbers, bytes, asked, recordRow, roomRow, bindRows, grantOf, outcomeFor, bind, lookup, checkRows, checkRequest, requestOf, recordRows}
-use Rattle.model.specs.Exactly.{_∈_, RefusalTable, otherwise, Gives, formLines, requestLines, checkRefusals, refusal, WellFormed, bindRefusals, lookupRefusals, TableRules, Exactly}
-use Rattle.model.proofs.Tests.{tests, Says}
+use Rattle.model.specs.Exactly.{_∈_, RefusalTable, otherwise, Gives, checkRefusals, refusal, WellFormed, operationsLine, RoomRule, bindRefusals, lookupRefusals, TableRules, Exactly}
+use Rattle.model.proofs.Tests.{tests, Alls, Says}
 use Rattle.model.proofs.Rows.{Match, match-gives, gives-one, not-both}
-use Rattle.model.proofs.Rules.{apart-shares, shares-apart, space-says, object-says, offset-says}
-use Rattle.model.proofs.Operations.{count-rule}
-use Rattle.model.proofs.Table.{table-says, rules-run, lowest}
+use Rattle.model.proofs.Numbers.{order}
+use Rattle.model.proofs.New.{new-map, new-unmap}
+use Rattle.model.proofs.Counts.{count-rule}
+use Rattle.model.proofs.Rules.{space-says}
+use Rattle.model.proofs.Table.{rules-run, lowest}
 use Rattle.model.proofs.Store.{length-mappings}
-
--- ── rows and lines, f being how an answer is read ──
-
-module _ {A B : Type 0} (f : Reply A → B) (a : A) (refuse : ℕ → B) (reads : (n : ℕ) → f (refused n 0) ≡ refuse n) where
-  form-match : (r : Request) (ws : List Row) (t : RefusalTable B) → (r .op < 2 → Match f a ws t) → Match f a (formRows r ++ ws) (formLines refuse r t)
-  unfolding formRows
-  form-match r ws t rest = (
-    reads 13,
-    (λ h. omega tests, λ h. omega tests),
-    λ op. (reads 14, (λ h. omega tests, λ h. omega tests), λ _. rest op),
-  )
-
-  request-match : (s : Space) (r : Request) (ws : List Row) (t : RefusalTable B) → r .op < 2 → (0 < r .size → Match f a ws t)
-      → Match f a (requestRows s r ++ ws) (requestLines refuse s r t)
-  unfolding requestRows
-  request-match s r ws t op rest = (
-    reads 6,
-    (λ h. omega tests, λ h. omega tests),
-    λ six. (
-      reads 7,
-      (λ h. omega tests, λ h. omega tests),
-      λ _. (
-        reads 8,
-        (λ h. apart-shares _ _ _ _ (omega tests), λ h. let k = shares-apart _ _ _ _ h in omega tests),
-        λ _. (reads 9, object-says r op, λ _. (reads 10, offset-says r, λ _. rest (six .3))),
-      ),
-    ),
-  )
+use Rattle.model.proofs.Groups.{form-match, request-match, table-match, operations-match}
 
 -- an answer is b exactly if the table gives b
 abbrev Answers : {B : Type 0} → B → RefusalTable B → Type 0
@@ -74,45 +49,41 @@ record-says (numbers op address size object offset) = (λ h. tt, λ h. tt)
 record-says (bytes bs) = (λ h. omega tests, λ h. omega tests)
 
 -- document 01's count afterwards is the count of the table after
-room-says : (s : Space) (t : Table) (r : Request) → TableRules s (mappings t) → 0 < r .size
-    → Says (roomRow t r .tests)
-    (t .count + length (flatMap rests (operations r (mappings t))) + length (new r) ≤ capacity t + length (flatMap old (operations r (mappings t))))
-room-says s t r h z =
-    let e = count-rule r (mappings t) (rules-run s (mappings t) h) z in
-    let n = length-mappings (t .count) (t .words) in
-    (λ k. omega (tests, k, e, n), λ k. omega (tests, k, e, n))
+room-says : (s : Space) (t : Table) (r : Request) → TableRules s (mappings t) → r .op < 2 → 0 < r .size → Says (roomRow t r .tests) (RoomRule r t)
+room-says s t r h k z = (
+  λ room. record {
+    for-map = λ o. omega (tests, room, e, n, ap length (new-map r o));
+    for-unmap = λ o. omega (tests, room, e, n, ap length (new-unmap r (λ p. omega (tests, o, p))));
+  },
+  λ rule. by-op (order (r .op) 0) rule,
+)
+  where
+    e : length (after r (mappings t)) + length (flatMap old (operations r (mappings t)))
+        ≡ length (mappings t) + length (flatMap rests (operations r (mappings t))) + length (new r)
+    e = count-rule r (mappings t) (rules-run s (mappings t) h) z
+
+    n : length (mappings t) ≡ t .count
+    n = length-mappings (t .count) (t .words)
+
+    by-op : (r .op ≤ 0) ⊎ (0 < r .op) → RoomRule r t → Alls (roomRow t r .tests)
+    by-op (inl o) rule =
+        let p : r .op ≡ 0 = omega tests in
+        omega (tests, rule .for-map p, e, n, ap length (new-map r p))
+    by-op (inr o) rule =
+        let p : r .op ≡ 1 = omega tests in
+        omega (tests, rule .for-unmap p, e, n, ap length (new-unmap r (λ q. omega (tests, o, q))))
 
 of-rows : (s : Space) (t : Table) (n : ℕ) (q : Asking) → Answers (decide (bindRows s t n q) (grantOf (asked q) (mappings t))) (bindRefusals s t n q)
-unfolding bindRows tableRows
+unfolding bindRows
 of-rows s t n q =
     let g : Grant = grantOf (asked q) (mappings t) in
     match-answers (λ a. a) g (bindRows s t n q) (bindRefusals s t n q) (
       record-number q,
       record-says q,
-      λ _. form-match (λ a. a) g refusal (λ n. refl) (asked q) _ _ (
-          λ op. (
-            refl,
-            space-says s,
-            λ _. (
-              refl,
-              (λ h. omega tests, λ h. omega tests),
-              λ _. (
-                refl,
-                (λ h. omega tests, λ h. omega tests),
-                λ _. (
-                  refl,
-                  (λ h. omega tests, λ h. omega tests),
-                  λ _. (
-                    refl,
-                    table-says s (mappings t),
-                    λ five. request-match (λ a. a) g refusal (λ n. refl) s (asked q) (roomRow t (asked q) ∷ []) _ op
-                        (λ six. (refl, room-says s t (asked q) five six, λ _. refl)),
-                  ),
-                ),
-              ),
-            ),
-          )
-          ),
+      λ _. form-match (λ a. a) g refusal (λ n. refl) (asked q) _ _ (λ op.
+          table-match g s t (operationsRow n t ∷ []) (operationsLine n t) (operations-match g n t) _ _ (λ five.
+          request-match (λ a. a) g refusal (λ n. refl) s (asked q) (roomRow t (asked q) ∷ []) _ op
+          (λ six. (refl, room-says s t (asked q) five op six, λ _. refl)))),
     )
   where
     record-number : (q : Asking) → _≡_ {A = Reply Grant} (refused (recordRow q .number) (recordRow q .place)) (refusal 12)
@@ -145,16 +116,11 @@ unchanged s t os q n p e = go (decide (bindRows s t (length os) q) (grantOf (ask
 -- ── look-up ──
 
 of-lookup : (s : Space) (t : Table) (x : ℕ) → Answers (lookup s t x) (lookupRefusals s t x)
-unfolding lookup lookupRows
-of-lookup s t x = match-answers (λ a. a) (translate (mappings t) x) (lookupRows s t) (lookupRefusals s t x) (
-  refl,
-  space-says s,
-  λ _. (
-    refl,
-    (λ h. omega tests, λ h. omega tests),
-    λ _. (refl, (λ h. omega tests, λ h. omega tests), λ _. (refl, table-says s (mappings t), λ _. refl)),
-  ),
-)
+unfolding lookup
+of-lookup s t x =
+    let v : Shown = translate (mappings t) x in
+    subst (λ (ws : List Row). Answers (decide ws v) (lookupRefusals s t x)) (append-nil (tableRows s [] t))
+    (match-answers (λ a. a) v (tableRows s [] t ++ []) (lookupRefusals s t x) (table-match v s t [] (λ u. u) (λ vs u m. m) [] _ (λ _. refl)))
 
 lookup-only : (s : Space) (t : Table) (x n p : ℕ) → lookup s t x ≡ refused n p → n ∈ (1 ∷ 2 ∷ 4 ∷ 5 ∷ [])
 lookup-only s t x n p e = go (of-lookup s t x (refused n p) .0 e)

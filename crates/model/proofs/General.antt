@@ -12,8 +12,9 @@ use Rattle.model.specs.Cut.{below, above, put, mappingOf, new, after}
 use Rattle.model.specs.Exactly.{_∈_}
 use Rattle.model.specs.Demand3.{Pieces, final}
 use Rattle.model.proofs.Actions.{each, each-mem, each-map, run}
+use Rattle.model.proofs.New.{new-map, new-unmap}
 use Rattle.model.proofs.Cuts.{pieces}
-use Rattle.model.proofs.Pieces.{any-order, pieces-ascending, new-map, new-unmap, news-map, news-unmap, pieces-length, news-enough}
+use Rattle.model.proofs.Pieces.{any-order, pieces-ascending, news-map, news-unmap, pieces-length, news-enough}
 use Rattle.model.proofs.Sort.{Sorted, sorted}
 use Rattle.model.proofs.Ask.{Asked}
 use Rattle.model.proofs.Whole.{asked-whole}

@@ -7,9 +7,9 @@ use native.Mathlib.Omega.{arith}
 use lib.Dec.{T, eqb, eqb→eq}
 use lib.ListN.{length}
 use Rattle.model.specs.Prelude.{Space, Mapping, Request, Grant}
-use Rattle.model.specs.Rows.{Reply, answered, decide}
+use Rattle.model.specs.Rows.{Row, Reply, answered, decide}
 use Rattle.model.specs.Rules.{stop, objectTests, offsetTests, formRows, requestRows}
-use Rattle.model.specs.Table.{Table, capacity, mappings, badPlace, tableRows}
+use Rattle.model.specs.Table.{Table, capacity, mappings, badPlace, operationsRow, tableRows}
 use Rattle.model.specs.Cut.{mappingOf, newFor, new, after}
 use Rattle.model.specs.Calls.{Asking, asked, roomRow, bindRows, grantOf, outcomeFor, bind}
 use Rattle.model.proofs.Tests.{tests, Alls, eq→eqb}
@@ -17,7 +17,8 @@ use Rattle.model.proofs.Rows.{Passed, passed-split, answered-passed}
 use Rattle.model.proofs.Chain.{Chain, chain-put}
 use Rattle.model.proofs.Table.{top, chain-good, good-chain}
 use Rattle.model.proofs.Store.{rewritten, holds-rewritten, holds-mappings}
-use Rattle.model.proofs.Ask.{Asked, asked as asked-of}
+use Rattle.model.proofs.Groups.{TablePassed, table-passed, form-passed, request-passed}
+use Rattle.model.proofs.Ask.{Asked, asked-by}
 use Rattle.model.proofs.Exactly.{answer-is}
 
 -- ── a request that may be asked leaves a chain ──
@@ -37,21 +38,25 @@ after-chain s r ms a h =
 -- ── a table that passes 1 to 5, n words being lent for operations ──
 
 abbrev pub Good : Space → ℕ → Table → Type 0
-Good s n t = Passed (tableRows s n t)
+Good s n t = TablePassed s (operationsRow n t ∷ []) t
 
 pub table-chain : (s : Space) (n : ℕ) (t : Table) → Good s n t → Chain s 0 (top s) (mappings t)
-unfolding tableRows
-table-chain s n t g = good-chain s (mappings t) (eqb→eq _ _ (g .1 .1 .1 .1 .0 .0))
+table-chain s n t g = good-chain s (mappings t) (eqb→eq _ _ (g .places .0))
 
 pub good-rewritten : (s : Space) (n : ℕ) (t : Table) (ms : List Mapping) → Good s n t → Chain s 0 (top s) ms → length ms ≤ capacity t
     → Good s n (rewritten t ms)
-unfolding tableRows
 good-rewritten s n t ms g c f =
     let h = holds-rewritten t ms f in
     let e = h .length-kept in
     let p = subst (λ (ns : List Mapping). T (eqb (badPlace s 0 ns) (length ns))) (sym (holds-mappings t (rewritten t ms) ms h))
     (eq→eqb _ _ (chain-good s 0 (top s) ms c)) in
-    (g .0, (omega (tests, e, g .1 .0), (omega (tests, e, g .1 .1 .0), ((omega (tests, e, f), tt), ((p, tt), tt)))))
+    record {
+      space = g .space;
+      length-right = omega (tests, e, g .length-right);
+      others = omega (tests, e, g .others);
+      count = (omega (tests, e, f), tt);
+      places = (p, tt);
+    }
 
 -- ── what a grant says ──
 
@@ -65,8 +70,8 @@ pub record Granting (s : Space) (t : Table) (os : List ℕ) (q : Asking) (g : Gr
 pub granting : (s : Space) (t : Table) (os : List ℕ) (q : Asking) (g : Grant) → bind s t os q .answer ≡ answered g → Granting s t os q g
 unfolding bind bindRows
 granting s t os q g e = record {
-  good = c .0;
-  may = asked-of s r (b .0) (d .0);
+  good = table-passed s (operationsRow (length os) t ∷ []) t (c .0);
+  may = asked-by (form-passed r (b .0)) (request-passed s r (d .0));
   room = omega (tests, d .1);
   grant = p .1;
   outcome = ap (λ (a : Reply Grant). outcomeFor a r t os) w;
@@ -81,11 +86,14 @@ granting s t os q g e = record {
     p : Passed (bindRows s t (length os) q) × (g ≡ grantOf r (mappings t))
     p = answered-passed (bindRows s t (length os) q) (grantOf r (mappings t)) g w
 
-    b : Passed (formRows r) × Passed (tableRows s (length os) t ++ (requestRows s r ++ roomRow t r ∷ []))
+    table : List Row
+    table = tableRows s (operationsRow (length os) t ∷ []) t
+
+    b : Passed (formRows r) × Passed (table ++ (requestRows s r ++ roomRow t r ∷ []))
     b = passed-split (formRows r) _ (p .0 .1)
 
-    c : Passed (tableRows s (length os) t) × Passed (requestRows s r ++ roomRow t r ∷ [])
-    c = passed-split (tableRows s (length os) t) _ (b .1)
+    c : Passed table × Passed (requestRows s r ++ roomRow t r ∷ [])
+    c = passed-split table _ (b .1)
 
     d : Passed (requestRows s r) × Passed (roomRow t r ∷ [])
     d = passed-split (requestRows s r) _ (c .1)

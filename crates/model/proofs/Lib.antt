@@ -6,7 +6,13 @@ pub mod Puts
 pub mod Actions
 pub mod Run
 pub mod Translate
+pub mod New
+pub mod Hits
 pub mod Operations
+pub mod Keep
+pub mod OperationWords
+pub mod Left
+pub mod Counts
 pub mod Replay
 pub mod Rules
 pub mod Chain
@@ -15,6 +21,7 @@ pub mod Store
 pub mod Cuts
 pub mod Pieces
 pub mod Sort
+pub mod Groups
 pub mod Ask
 pub mod Whole
 pub mod Service
@@ -32,9 +39,3 @@ pub mod Pinned
 pub mod Boundaries
 pub mod Steps
 pub mod Example
-pub mod Printed
-pub mod Decimal
-pub mod ScriptRecords
-pub mod ScriptWritten
-pub mod ScriptSpaces
-pub mod ScriptRefusals

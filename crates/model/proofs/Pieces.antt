@@ -14,6 +14,7 @@ use Rattle.model.specs.Demand3.{piece, Pieces}
 use Rattle.model.proofs.Numbers.{order}
 use Rattle.model.proofs.Puts.{Within, put-over, put-apart, put-chain}
 use Rattle.model.proofs.Actions.{each, each-mem, each-map, run, same-run}
+use Rattle.model.proofs.New.{new-map, new-unmap}
 use Rattle.model.proofs.Cuts.{Apart, piecesFrom, pieces, CutsFrom, Cuts}
 
 -- ── the new mappings of a request and of its pieces ──
@@ -24,16 +25,6 @@ newFor-within (suc n) m h = tt
 
 new-within : (r : Request) → 0 < r .size → Within (r .address) (stop r) (new r)
 new-within r h = newFor-within (r .op) (mappingOf r) h
-
-pub new-map : (r : Request) → r .op ≡ 0 → new r ≡ mappingOf r ∷ []
-new-map r e = ap (λ (n : ℕ). newFor n (mappingOf r)) e
-
-pub new-unmap : (r : Request) → (r .op ≡ 0 → ⊥) → new r ≡ []
-new-unmap r h = go (r .op) refl
-  where
-    go : (n : ℕ) → r .op ≡ n → newFor n (mappingOf r) ≡ []
-    go zero e = absurd (h e)
-    go (suc n) e = refl
 
 pub news-map : (r : Request) (from : ℕ) (cs : List ℕ) → r .op ≡ 0 → flatMap new (piecesFrom r from cs) ≡ map mappingOf (piecesFrom r from cs)
 unfolding piecesFrom flatMap

@@ -7,8 +7,6 @@ use lib.ListN.{getD}
 use Rattle.model.specs.Rows.{Reply, refused, answered}
 use Rattle.model.specs.Calls.{numbered, verdictReply, decodedReply, answerReply, foundReply}
 use Rattle.model.specs.Exactly.{Pins, Pinned}
-use Rattle.model.specs.Script.{Told, emptied, granted, shows, refusal, otherMark, cut, ended, responseTold}
-use Rattle.model.specs.Scripts.{ResponsePinned}
 use Rattle.model.specs.declared.Refusal.{Refusal}
 use Rattle.model.specs.declared.Refusal.the-variants.{BadSpace, BadTableLength, ShortOperations, BadCount, BadMapping, Unaligned, OutsideSpace, Reserved, BadObject, BadOffset, NoRoom, BadRecordLength, BadOp, BadFlags}
 use Rattle.model.specs.declared.Verdict.{Verdict}
@@ -19,19 +17,17 @@ use Rattle.model.specs.declared.Answer.{Answer}
 use Rattle.model.specs.declared.Answer.the-variants.{Granted, Refused}
 use Rattle.model.specs.declared.Found.{Found}
 use Rattle.model.specs.declared.Found.the-variants.{Shows, Refused as FoundRefused}
-use Rattle.model.specs.declared.Response.{Response}
-use Rattle.model.specs.declared.Response.the-variants.{Emptied, Granted as ResponseGranted, Shows as ResponseShows, Refused as ResponseRefused, OtherMark, Cut, End}
 
-abbrev refusals : ℕ → List Refusal
+abbrev pub refusals : ℕ → List Refusal
 refusals p =
     BadSpace ∷ BadTableLength ∷ ShortOperations ∷ BadCount ∷ BadMapping p
     ∷ Unaligned ∷ OutsideSpace ∷ Reserved ∷ BadObject ∷ BadOffset ∷ NoRoom
     ∷ BadRecordLength ∷ BadOp ∷ BadFlags ∷ []
 
-abbrev named : ℕ → ℕ → Refusal
+abbrev pub named : ℕ → ℕ → Refusal
 named n p = getD (refusals p) (n - 1) BadSpace
 
-named-numbered : (w : Refusal) → named (numbered w .0) (numbered w .1) ≡ w
+pub named-numbered : (w : Refusal) → named (numbered w .0) (numbered w .1) ≡ w
 named-numbered BadSpace = refl
 named-numbered BadTableLength = refl
 named-numbered ShortOperations = refl
@@ -68,7 +64,7 @@ found-back : (f : Found) → back Shows FoundRefused (foundReply f) ≡ f
 found-back (Shows x) = refl
 found-back (FoundRefused w) = ap FoundRefused (named-numbered w)
 
-back-pins : {A B : Type 0} (read : A → B) (back : B → A) → ((a : A) → back (read a) ≡ a) → Pins read
+pub back-pins : {A B : Type 0} (read : A → B) (back : B → A) → ((a : A) → back (read a) ≡ a) → Pins read
 back-pins read back same a b e = sym (same a) ∙ ap back e ∙ same b
 
 pub pinned : Pinned
@@ -78,24 +74,3 @@ pinned = (
   back-pins answerReply (back Granted Refused) answer-back,
   back-pins foundReply (back Shows FoundRefused) found-back,
 )
-
-abbrev responseOf : Told → Response
-responseOf (emptied n) = Emptied n
-responseOf (granted g) = ResponseGranted g
-responseOf (shows x v) = ResponseShows x v
-responseOf (refusal n p) = ResponseRefused (named n p)
-responseOf otherMark = OtherMark
-responseOf cut = Cut
-responseOf ended = End
-
-response-back : (r : Response) → responseOf (responseTold r) ≡ r
-response-back (Emptied n) = refl
-response-back (ResponseGranted g) = refl
-response-back (ResponseShows x v) = refl
-response-back (ResponseRefused w) = ap ResponseRefused (named-numbered w)
-response-back OtherMark = refl
-response-back Cut = refl
-response-back End = refl
-
-pub response-pinned : ResponsePinned
-response-pinned = back-pins responseTold responseOf response-back

@@ -17,7 +17,8 @@ use Rattle.model.specs.Grants.{restTests, equal, replace, insert, apply,
 use Rattle.model.proofs.Tests.{tests, Alls, all-true}
 use Rattle.model.proofs.Actions.{each-map, each-append}
 use Rattle.model.proofs.Run.{Run}
-use Rattle.model.proofs.Operations.{Hit, First, hit, missed, hits-first, rests-parts, left, left-hit, left-missed}
+use Rattle.model.proofs.Hits.{Hit, First, hit, missed, hits-first}
+use Rattle.model.proofs.Left.{rests-parts, left, left-hit, left-missed}
 
 -- ── one operation ──
 

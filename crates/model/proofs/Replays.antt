@@ -1,14 +1,15 @@
 -- The operations that a grant writes: they replay to the table left, are the ones that document 01 lists, and are as many as it answers.
 -- Assumes nothing.
 use mathlib.Core.Path.{_≡_, refl, sym, ap, subst, _∙_}
-use mathlib.Core.List.{List, _++_, flatMap}
+use mathlib.Core.List.{List, [], _++_, map, flatMap, append-nil}
 use Prim.Native.Nat.{ℕ, _+_, _*_, _≤_}
 use native.Mathlib.Omega.{arith}
 use lib.ListN.{length, length-append, length-drop, drop}
-use Rattle.model.specs.Prelude.{some, Space, Mapping, Request, Grant}
+use Rattle.model.specs.Prelude.{some, Space, Mapping, Request, Map, Grant}
 use Rattle.model.specs.Rows.{answered}
-use Rattle.model.specs.Table.{Table, mappings, tableRows}
-use Rattle.model.specs.Cut.{after, operations, operationWords}
+use Rattle.model.specs.Table.{Table, mappings}
+use Rattle.model.specs.Cut.{new, after, operations, old, rests}
+use Rattle.model.specs.Layout.{operationWords}
 use Rattle.model.specs.Calls.{asked, grantOf, Outcome, outcomeFor, tableAfter}
 use Rattle.model.specs.Grants.{Replays, Replay}
 use Rattle.model.proofs.Tests.{tests}
@@ -16,13 +17,14 @@ use Rattle.model.proofs.Run.{Run, run-ascends}
 use Rattle.model.proofs.Chain.{chain-run}
 use Rattle.model.proofs.Store.{rewritten, holds-rewritten, holds-mappings, length-mappings}
 use Rattle.model.proofs.Granted.{Good, Granting, granting, table-chain}
-use Rattle.model.proofs.Operations.{hit-members, hits-ascend, map-last, count-rule, count-most, operations-most, operations-words}
+use Rattle.model.proofs.New.{new-map, new-unmap}
+use Rattle.model.proofs.Operations.{front, operations-are, front-length, hit-members, hits-ascend, operations-most, operations-words}
+use Rattle.model.proofs.Counts.{count-rule, count-most}
 use Rattle.model.proofs.Replay.{replays}
 
 -- number 3 settles that the operation slice is long enough
 room-enough : (s : Space) (n : ℕ) (t : Table) → Good s n t → 14 * (t .count + 1) ≤ n
-unfolding tableRows
-room-enough s n t g = omega (tests, g .1 .1 .0, g .1 .1 .1 .0)
+room-enough s n t g = omega (tests, g .others, g .count)
 
 pub replay-claim : Replay
 replay-claim s t os q g e =
@@ -54,13 +56,25 @@ replay-claim s t os q g e =
       replayed = replays r ms (w .may .not-empty) run ∙ ap some (sym (holds-mappings t _ (after r ms) (holds-rewritten t (after r ms) (w .room))));
       hit = hit-members r ms;
       ascending = hits-ascend r ms (run-ascends 0 ms run);
-      last = map-last r ms;
+      front = front r ms;
+      each-hit = front-length r ms;
+      map-last = λ e. operations-are r ms ∙ ap (λ (ns : List Mapping). front r ms ++ map Map ns) (new-map r e);
+      unmap-last = λ e. operations-are r ms ∙ ap (λ (ns : List Mapping). front r ms ++ map Map ns) (no-map e) ∙ append-nil (front r ms);
       number = refl;
       words = (refl, kept);
-      counted = omega (arith, count-rule r ms run (w .may .not-empty), count);
-      most = (omega (arith, count-most r ms run (w .may .not-empty), count), most);
+      map-count = λ e. omega (arith, rule, count, ap length (new-map r e));
+      unmap-count = λ e. omega (arith, rule, count, ap length (no-map e));
+      map-most = λ e. omega (arith, count-most r ms run (w .may .not-empty), count, ap length (new-map r e));
+      unmap-most = λ e. omega (arith, count-most r ms run (w .may .not-empty), count, ap length (no-map e));
+      operations-most = most;
     }
       where
+        no-map : r .op ≡ 1 → new r ≡ []
+        no-map e = new-unmap r (λ z. omega (arith, e, z))
+
+        rule : length (after r ms) + length (flatMap old (operations r ms)) ≡ length ms + length (flatMap rests (operations r ms)) + length (new r)
+        rule = count-rule r ms run (w .may .not-empty)
+
         kept : length (flatMap operationWords (operations r ms) ++ drop (14 * length (operations r ms)) os) ≡ length os
         kept = length-append (flatMap operationWords (operations r ms)) _
             ∙ omega (arith, operations-words (operations r ms), length-drop (14 * length (operations r ms)) os, room-enough s (length os) t (w .good), most)

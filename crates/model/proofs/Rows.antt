@@ -59,6 +59,10 @@ module _ {A : Type 0} where
   past (w ∷ ws) vs a h =
       ap (λ (b : Bool). choose b (decide (ws ++ vs) a) (refused (w .number) (w .place))) (all-true (w .tests) (h .0)) ∙ past ws vs a (h .1)
 
+  pub passes : (ws : List Row) (a : A) → Passed ws → decide ws a ≡ answered a
+  unfolding decide
+  passes ws a h = rw append-nil at (past ws [] a h)
+
   -- an answer passed every row
   pub answered-passed : (ws : List Row) (a b : A) → decide ws a ≡ answered b → Passed ws × (b ≡ a)
   unfolding decide

@@ -2,8 +2,9 @@
 use Rattle.model.specs.Prelude.{List, [], _∷_, _++_, flatMap, ℕ, zero, suc, _+_, _*_, _/_, _%_, leb, eqb, length, getD, drop, Space, Mapping, Request, Shown, Grant}
 pub use Rattle.model.specs.Rows.{all, choose, Row, row, Reply, refused, answered, decide, verdict, numberOf}
 pub use Rattle.model.specs.Rules.{mostMappings, end, stop, byNumbers, spaceRow, formRows, requestRows}
-pub use Rattle.model.specs.Table.{Table, capacity, mappings, written, badPlace, tableRows, lookupRows}
-pub use Rattle.model.specs.Cut.{mappingOf, new, after, operations, restsOf, old, rests, operationWords, translate}
+pub use Rattle.model.specs.Table.{Table, capacity, mappings, written, badPlace, operationsRow, tableRows}
+pub use Rattle.model.specs.Cut.{mappingOf, new, after, operations, restsOf, old, rests, translate}
+pub use Rattle.model.specs.Layout.{operationWords}
 use Rattle.model.specs.declared.Refusal.{Refusal}
 use Rattle.model.specs.declared.Refusal.the-variants.{BadSpace, BadTableLength, ShortOperations, BadCount, BadMapping, Unaligned, OutsideSpace, Reserved, BadObject, BadOffset, NoRoom, BadRecordLength, BadOp, BadFlags}
 use Rattle.model.specs.declared.Verdict.{Verdict}
@@ -73,7 +74,9 @@ roomRow t r = row 11 (leb (length (after r (mappings t))) (capacity t) ∷ [])
 
 -- 12, 13, 14, 1, 2, 3, 4, 5, 6, 7, 8, 9, 10, 11, with n words lent for operations
 unfoldable pub bindRows : Space → Table → ℕ → Asking → List Row
-bindRows s t n q = recordRow q ∷ (formRows (asked q) ++ (tableRows s n t ++ (requestRows s (asked q) ++ roomRow t (asked q) ∷ [])))
+bindRows s t n q =
+    recordRow q ∷ (formRows (asked q)
+    ++ (tableRows s (operationsRow n t ∷ []) t ++ (requestRows s (asked q) ++ roomRow t (asked q) ∷ [])))
 
 -- on a grant the answer gives the number of operations and the new count
 abbrev pub grantOf : Request → List Mapping → Grant
@@ -106,13 +109,14 @@ countAfter (answered g) count = g .count
 abbrev pub tableAfter : Table → Outcome → Table
 tableAfter t o = record { words = o .table; count = countAfter (o .answer) (t .count) }
 
--- a look-up, for any input; it writes nowhere
+-- a look-up, for any input: 1, 2, 4, 5, or what the address shows; it writes nowhere
 unfoldable pub lookup : Space → Table → ℕ → Reply Shown
-lookup s t x = decide (lookupRows s t) (translate (mappings t) x)
+lookup s t x = decide (tableRows s [] t) (translate (mappings t) x)
 
 -- document 01: Space, its four numbers: start, size, reserved start, reserved size
 abbrev pub spaceOf : ℕ → ℕ → ℕ → ℕ → Space
-spaceOf start size from length = record { start = start; size = size; reserved = record { start = from; size = length } }
+spaceOf address size reservedAddress reservedSize =
+    record { start = address; size = size; reserved = record { start = reservedAddress; size = reservedSize } }
 
 -- the request check: 12, 13, 14, 1, 6, 7, 8, 9, 10, and the first refusal's number, or 0
 unfoldable pub checkRows : List ℕ → Space → List Row

@@ -2,7 +2,6 @@
 use Rattle.model.specs.Prelude.{Bool, List, [], _∷_, _++_, map, ℕ, zero, suc, _+_, _-_, min, max, leb, ltb, eqb, Mapping, Request, Rests, Lower, Upper, Both, Operation, Map, Remap, Unmap, Shown, Nothing, Object}
 use Rattle.model.specs.Rows.{all, choose}
 use Rattle.model.specs.Rules.{end, stop, apart}
-use Rattle.model.specs.Table.{wordsOf}
 
 -- the part under the address a (document 01: lower rest); size 0 where there is none
 abbrev pub lowerPart : ℕ → Mapping → Mapping
@@ -95,21 +94,6 @@ abbrev pub rests : Operation → List Mapping
 rests (Map m) = []
 rests (Remap keep m rs) = restsOf rs
 rests (Unmap keep m) = []
-
--- an absent rest
-abbrev pub absent : List ℕ
-absent = 0 ∷ 0 ∷ 0 ∷ 0 ∷ []
-
-abbrev pub restWords : Rests → List ℕ
-restWords (Lower l) = wordsOf l ++ absent
-restWords (Upper u) = absent ++ wordsOf u
-restWords (Both l u) = wordsOf l ++ wordsOf u
-
--- kind, keep, the old mapping (a map's new one), the lower rest, the upper rest
-abbrev pub operationWords : Operation → List ℕ
-operationWords (Map m) = 0 ∷ 0 ∷ (wordsOf m ++ (absent ++ absent))
-operationWords (Remap keep m rs) = 1 ∷ choose keep 1 0 ∷ (wordsOf m ++ restWords rs)
-operationWords (Unmap keep m) = 2 ∷ choose keep 1 0 ∷ (wordsOf m ++ (absent ++ absent))
 
 -- document 01: Look-up. The byte address x lies inside m
 abbrev pub insideTests : Mapping → ℕ → List Bool

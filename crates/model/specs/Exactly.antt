@@ -1,6 +1,6 @@
 -- Document 01's rules in words; its numbers are written out, but for the 512 mappings. A call gives a line's answer exactly if its rule is broken and no line's above it.
 use Rattle.model.specs.Prelude.{_≡_, _⊎_, _↔_, List, [], _∷_, flatMap, List·Memᴰ, ℕ, suc, _+_, _*_, _/_, _%_, _^_, _≤_, _<_, length, take, Space, Mapping, Request, Shown, Grant}
-use Rattle.model.specs.Calls.{Reply, refused, answered, mostMappings, end, stop, requestOf, recordOf, Table, mappings, badPlace, new, operations, old, rests, translate, Asking, numbers, bytes, asked, grantOf, bind, lookup, checkRequest, verdictReply, decodedReply, answerReply, foundReply}
+use Rattle.model.specs.Calls.{Reply, refused, answered, mostMappings, end, stop, requestOf, recordOf, Table, mappings, badPlace, operations, old, rests, translate, Asking, numbers, bytes, asked, grantOf, bind, lookup, checkRequest, verdictReply, decodedReply, answerReply, foundReply}
 
 infix 40 _∈_ _⊆_
 abbrev pub Each : {A : Type 0} → (A → Type 0) → List A → Type 0
@@ -85,29 +85,41 @@ abbrev pub WellFormed : Asking → Type 0
 WellFormed (numbers op address size object offset) = Unit {0}
 WellFormed (bytes bs) = length bs ≡ 40
 
--- 1 and 2; 4 and 5: the lines that a look-up has too
-abbrev pub spaceLines : {A : Type 0} → Space → Table → RefusalTable (Reply A) → RefusalTable (Reply A)
-spaceLines s t rest = line (refusal 1) (SpaceRules s) (line (refusal 2)
-    ((0 < length (t .words)) × (length (t .words) % 4 ≡ 0) × (length (t .words) ≤ 4 * mostMappings)) rest)
+-- 1, 2, what the call has between, 4, 5: the lines of every call on a table
+abbrev pub contentLines : {A : Type 0} → Space → Table → RefusalTable (Reply A) → RefusalTable (Reply A)
+contentLines s t rest =
+    line (refusal 4) (t .count ≤ length (t .words) / 4)
+    (line (refused 5 (badPlace s 0 (mappings t))) (TableRules s (mappings t)) rest)
 
-abbrev pub mappingLines : {A : Type 0} → Space → Table → RefusalTable (Reply A) → RefusalTable (Reply A)
-mappingLines s t rest = line (refusal 4) (t .count ≤ length (t .words) / 4) (line (refused 5 (badPlace s 0 (mappings t))) (TableRules s (mappings t)) rest)
+abbrev pub tableLines : {A : Type 0} → Space → (RefusalTable (Reply A) → RefusalTable (Reply A)) → Table
+    → RefusalTable (Reply A) → RefusalTable (Reply A)
+tableLines s between t rest =
+    line (refusal 1) (SpaceRules s)
+    (line (refusal 2) ((0 < length (t .words)) × (length (t .words) % 4 ≡ 0) × (length (t .words) ≤ 4 * mostMappings))
+    (between (contentLines s t rest)))
 
--- with n words lent for operations. 11: count - hit + lower rests + upper rests + (1 for a map) is within capacity
+-- 3, with n words lent for operations
+abbrev pub operationsLine : {A : Type 0} → ℕ → Table → RefusalTable (Reply A) → RefusalTable (Reply A)
+operationsLine n t rest = line (refusal 3) ((length (t .words) / 4 + 1) * 14 ≤ n) rest
+
+-- 11: count - hit + lower rests + upper rests + (1 for a map) is within capacity
+pub record RoomRule (r : Request) (t : Table) : Type 0 where
+  pub for-map : r .op ≡ 0 → t .count + length (flatMap rests (operations r (mappings t))) + 1
+      ≤ length (t .words) / 4 + length (flatMap old (operations r (mappings t)))
+  pub for-unmap : r .op ≡ 1 → t .count + length (flatMap rests (operations r (mappings t)))
+      ≤ length (t .words) / 4 + length (flatMap old (operations r (mappings t)))
+
 abbrev pub bindRefusals : Space → Table → ℕ → Asking → RefusalTable (Reply Grant)
 bindRefusals s t n q =
     line (refusal 12) (WellFormed q)
     (formLines refusal (asked q)
-    (spaceLines s t
-    (line (refusal 3) ((length (t .words) / 4 + 1) * 14 ≤ n)
-    (mappingLines s t
+    (tableLines s (operationsLine n t) t
     (requestLines refusal s (asked q)
-    (line (refusal 11) (t .count + length (flatMap rests (operations (asked q) (mappings t))) + length (new (asked q))
-    ≤ length (t .words) / 4 + length (flatMap old (operations (asked q) (mappings t))))
-    (otherwise (answered (grantOf (asked q) (mappings t))))))))))
+    (line (refusal 11) (RoomRule (asked q) t)
+    (otherwise (answered (grantOf (asked q) (mappings t))))))))
 
 abbrev pub lookupRefusals : Space → Table → ℕ → RefusalTable (Reply Shown)
-lookupRefusals s t x = spaceLines s t (mappingLines s t (otherwise (answered (translate (mappings t) x))))
+lookupRefusals s t x = tableLines s (λ rest. rest) t (otherwise (answered (translate (mappings t) x)))
 
 -- an answer is a exactly if the table gives a
 pub record Exactly : Type 0 where

@@ -1,6 +1,7 @@
 -- What a grant does: demand 2 in terms of the public calls, and the operations as a driver takes them.
 use Rattle.model.specs.Prelude.{_≡_, _⊎_, _↔_, Bool, Option, none, some, Option·map, Option·bind, List, [], _∷_, _++_, map, flatMap, ℕ, _+_, _-_, _*_, _≤_, _<_, leb, ltb, eqb, length, getD, drop, replicate, Space, Mapping, Request, Rests, Lower, Upper, Both, Operation, Map, Remap, Unmap, Nothing, Object, Grant}
-use Rattle.model.specs.Calls.{all, choose, answered, end, stop, Table, mappings, new, operations, restsOf, old, rests, operationWords, translate, Asking, asked, bind, tableAfter, lookup}
+use Rattle.model.specs.Calls.{all, choose, answered, end, stop, Table, mappings, operations, restsOf, old, rests, operationWords, translate, Asking, asked, bind, tableAfter, lookup}
+use Rattle.model.specs.Layout.{operationIn}
 use Rattle.model.specs.Exactly.{Each, _∈_, ShareByte, Ascends, TableRules}
 
 -- u is what the granted request r leaves of t: what byte addresses show; a valid table, zeros behind it; look-ups in it are answered
@@ -65,13 +66,21 @@ pub record Replays (r : Request) (t u : Table) (os : List Operation) (lent writt
   -- one for each mapping hit, in ascending address, and a map's own at the very end
   pub hit : (m : Mapping) → m ∈ flatMap old os ↔ (m ∈ mappings t × ShareByte (m .address) (end m) (r .address) (stop r))
   pub ascending : Ascends (flatMap old os)
-  pub last : (front : List Operation) × (os ≡ front ++ map Map (new r)) × (length front ≡ length (flatMap old os))
+  pub front : List Operation
+  pub each-hit : length front ≡ length (flatMap old os)
+  pub map-last : r .op ≡ 0
+      → os ≡ front ++ Map (record { address = r .address; size = r .size; object = r .object; offset = r .offset }) ∷ []
+  pub unmap-last : r .op ≡ 1 → os ≡ front
   pub number : g .operations ≡ length os
   -- 14 words each; behind the last operation words are as they were
   pub words : (written ≡ flatMap operationWords os ++ drop (14 * g .operations) lent) × (length written ≡ length lent)
   -- count afterwards = count - hit + lower rests + upper rests + (1 for a map)
-  pub counted : g .count + length (flatMap old os) ≡ t .count + length (flatMap rests os) + length (new r)
-  pub most : (g .count ≤ t .count + 1 + length (new r)) × (g .operations ≤ t .count + 1)
+  pub map-count : r .op ≡ 0 → g .count + length (flatMap old os) ≡ t .count + length (flatMap rests os) + 1
+  pub unmap-count : r .op ≡ 1 → g .count + length (flatMap old os) ≡ t .count + length (flatMap rests os)
+  -- a map adds at most 2, an unmap at most 1; at most count + 1 operations
+  pub map-most : r .op ≡ 0 → g .count ≤ t .count + 2
+  pub unmap-most : r .op ≡ 1 → g .count ≤ t .count + 1
+  pub operations-most : g .operations ≤ t .count + 1
 
 abbrev pub Replay : Type 0
 Replay = (s : Space) (t : Table) (os : List ℕ) (q : Asking) (g : Grant) → bind s t os q .answer ≡ answered g
@@ -83,3 +92,35 @@ Marked r o word = (word ≤ 1) × ((word ≡ 1) ↔ ((m : Mapping) × m ∈ old 
 
 abbrev pub Keep : Type 0
 Keep = (r : Request) (ms : List Mapping) → Each (λ o. Marked r o (getD (operationWords o) 1 0)) (operations r ms)
+
+-- document 01: an operation is 14 words: kind, keep, the old mapping (a map's new one), the lower rest, the upper rest; an absent rest is four zeros
+abbrev pub laid : ℕ → ℕ → Mapping → List ℕ → List ℕ → List ℕ
+laid kind keep m lower upper = kind ∷ keep ∷ m .address ∷ m .size ∷ m .object ∷ m .offset ∷ (lower ++ upper)
+
+abbrev pub restLaid : Mapping → List ℕ
+restLaid m = m .address ∷ m .size ∷ m .object ∷ m .offset ∷ []
+
+abbrev pub Laid : Operation → List ℕ → Type 0
+Laid (Map m) ws = ws ≡ laid 0 0 m (0 ∷ 0 ∷ 0 ∷ 0 ∷ []) (0 ∷ 0 ∷ 0 ∷ 0 ∷ [])
+Laid (Unmap keep m) ws = ws ≡ laid 2 (choose keep 1 0) m (0 ∷ 0 ∷ 0 ∷ 0 ∷ []) (0 ∷ 0 ∷ 0 ∷ 0 ∷ [])
+Laid (Remap keep m (Lower l)) ws = ws ≡ laid 1 (choose keep 1 0) m (restLaid l) (0 ∷ 0 ∷ 0 ∷ 0 ∷ [])
+Laid (Remap keep m (Upper u)) ws = ws ≡ laid 1 (choose keep 1 0) m (0 ∷ 0 ∷ 0 ∷ 0 ∷ []) (restLaid u)
+Laid (Remap keep m (Both l u)) ws = ws ≡ laid 1 (choose keep 1 0) m (restLaid l) (restLaid u)
+
+abbrev pub OperationLayout : Type 0
+OperationLayout = (o : Operation) → Laid o (operationWords o)
+
+-- alike in all of an operation's words but keep
+abbrev pub SameWords : List ℕ → List ℕ → Type 0
+SameWords ws vs = Each (λ i. getD ws i 0 ≡ getD vs i 0) (0 ∷ 2 ∷ 3 ∷ 4 ∷ 5 ∷ 6 ∷ 7 ∷ 8 ∷ 9 ∷ 10 ∷ 11 ∷ 12 ∷ 13 ∷ [])
+
+-- words say o: they are its own, but that any other keep word than 1 reads as 0 (a map's is not read), and its rests are there
+pub record Says (ws : List ℕ) (o : Operation) : Type 0 where
+  pub words : SameWords ws (operationWords o)
+  pub keep : (m : Mapping) → m ∈ old o → (getD ws 1 0 ≡ 1) ↔ (getD (operationWords o) 1 0 ≡ 1)
+  pub there : Each (λ m. restLaid m ≡ 0 ∷ 0 ∷ 0 ∷ 0 ∷ [] → ⊥) (rests o)
+
+-- an operation is read from words exactly if they say it; so a request's own operations are read back as they were written
+pub record OperationReading : Type 0 where
+  pub exactly : (ws : List ℕ) (o : Operation) → (operationIn ws ≡ some o) ↔ Says ws o
+  pub own : (r : Request) (ms : List Mapping) → Each (λ o. operationIn (operationWords o) ≡ some o) (operations r ms)

@@ -3,11 +3,9 @@ pub mod Rows
 pub mod Rules
 pub mod Table
 pub mod Cut
+pub mod Layout
 pub mod Calls
 pub mod Exactly
 pub mod Grants
 pub mod Demand3
 pub mod Drawings
-pub mod Text
-pub mod Script
-pub mod Scripts

@@ -12,11 +12,14 @@ pub record Table : Type 0 where
 abbrev pub capacity : Table → ℕ
 capacity t = length (t .words) / 4
 
--- the first n mappings in any words, four words each; one behind the last word is zeros
+-- the mapping in the four words from place i on; a word behind the last is zero
+abbrev pub mappingFrom : ℕ → List ℕ → Mapping
+mappingFrom i ws = record { address = getD ws i 0; size = getD ws (i + 1) 0; object = getD ws (i + 2) 0; offset = getD ws (i + 3) 0 }
+
+-- the first n mappings in any words, four words each
 unfoldable pub mappingsIn : ℕ → List ℕ → List Mapping
 mappingsIn zero ws = []
-mappingsIn (suc n) ws =
-    record { address = getD ws 0 0; size = getD ws 1 0; object = getD ws 2 0; offset = getD ws 3 0 } ∷ mappingsIn n (drop 4 ws)
+mappingsIn (suc n) ws = mappingFrom 0 ws ∷ mappingsIn n (drop 4 ws)
 
 abbrev pub mappings : Table → List Mapping
 mappings t = mappingsIn (t .count) (t .words)
@@ -55,9 +58,10 @@ abbrev pub mappingsRow : Space → Table → Row
 mappingsRow s t =
     record { number = 5; place = badPlace s 0 (mappings t); tests = eqb (badPlace s 0 (mappings t)) (length (mappings t)) ∷ [] }
 
--- 1 to 5, as a request has them; 1, 2, 4 and 5, as a look-up has them
-unfoldable pub tableRows : Space → ℕ → Table → List Row
-tableRows s n t = spaceRow s ∷ lengthRow t ∷ operationsRow n t ∷ countRow t ∷ mappingsRow s t ∷ []
+-- the rows that look at what a table holds: 4, 5
+abbrev pub contentRows : Space → Table → List Row
+contentRows s t = countRow t ∷ mappingsRow s t ∷ []
 
-unfoldable pub lookupRows : Space → Table → List Row
-lookupRows s t = spaceRow s ∷ lengthRow t ∷ countRow t ∷ mappingsRow s t ∷ []
+-- the rows of every call on a table: 1, 2, what the call has between (a request 3, a look-up nothing), 4, 5
+unfoldable pub tableRows : Space → List Row → Table → List Row
+tableRows s between t = spaceRow s ∷ lengthRow t ∷ (between ++ contentRows s t)

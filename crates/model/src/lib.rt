@@ -78,6 +78,12 @@ pub enum Operation {
     Unmap(bool, Mapping),
 }
 
+// What fourteen words of an operation list say: an operation, or none.
+pub enum Listed {
+    Known(Operation),
+    Unknown,
+}
+
 // What a byte address shows: nothing, or an object's byte at an offset.
 pub enum Shown {
     Nothing,
@@ -100,26 +106,4 @@ pub enum Answer {
 pub enum Found {
     Shows(Shown),
     Refused(Refusal),
-}
-
-// What stands at a place of a script (document 01: The script program). A request's 40 bytes are those behind its mark.
-pub enum ScriptRecord {
-    SetSpace(Space),
-    Bind,
-    LookUp(u64),
-    OtherMark,
-    Cut,
-    End,
-}
-
-// What the script program answers to a record: the capacity of the table that a granted `SP` emptied; a grant; an address
-// and what it shows; a refusal; or that the script ends there.
-pub enum Response {
-    Emptied(usize),
-    Granted(Grant),
-    Shows(u64, Shown),
-    Refused(Refusal),
-    OtherMark,
-    Cut,
-    End,
 }

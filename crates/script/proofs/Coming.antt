@@ -12,12 +12,12 @@ use lib.Seq.{drop-append-le}
 use borrow.Author.Tests.{eqb-false}
 use Rattle.model.specs.declared.Grant.{Grant}
 use Rattle.model.specs.declared.Shown.{Shown}
-use Rattle.model.specs.declared.ScriptRecord.{ScriptRecord}
-use Rattle.model.specs.declared.ScriptRecord.the-variants.{SetSpace, Bind, LookUp, OtherMark, Cut, End}
+use Rattle.program.specs.declared.ScriptRecord.{ScriptRecord}
+use Rattle.program.specs.declared.ScriptRecord.the-variants.{SetSpace, Bind, LookUp, OtherMark, Cut, End}
 use Rattle.model.specs.Rows.{choose, Reply, refused, answered}
 use Rattle.model.specs.Calls.{lookup}
-use Rattle.model.specs.Script.{State, Told, emptied, granted, shows, refusal, otherMark, cut, ended, recordAt, recordSize, toldBy, setSpace, bindIn, Step, stepOn, step, lines, operationsIn, run, responseTold}
-use Rattle.model.proofs.ScriptRecords.{record-fits, prefix, run-fuel}
+use Rattle.program.specs.Script.{State, Told, emptied, granted, shows, refusal, otherMark, cut, ended, recordAt, recordSize, toldBy, setSpace, bindIn, Step, stepOn, step, lines, operationsIn, run, responseTold}
+use Rattle.program.proofs.Records.{record-fits, prefix, run-fuel}
 use Rattle.script.specs.declared.Progress.{Progress}
 use Rattle.script.specs.declared.Stepped.{Stepped}
 use Rattle.script.specs.Steps.{stateOf, Steps}

@@ -8,14 +8,15 @@ use lib.ListN.{length, take, drop, length-append, length-drop}
 use lib.Seq.{take-at, drop-at}
 use Rattle.model.specs.declared.Operation.{Operation}
 use Rattle.model.specs.declared.Grant.{Grant}
-use Rattle.model.specs.declared.ScriptRecord.{ScriptRecord}
-use Rattle.model.specs.declared.ScriptRecord.the-variants.{SetSpace, Bind, LookUp, OtherMark, Cut, End}
+use Rattle.program.specs.declared.ScriptRecord.{ScriptRecord}
+use Rattle.program.specs.declared.ScriptRecord.the-variants.{SetSpace, Bind, LookUp, OtherMark, Cut, End}
 use Rattle.model.specs.Rows.{Reply, refused, answered}
 use Rattle.model.specs.Table.{mappings}
-use Rattle.model.specs.Cut.{operationWords, operations}
+use Rattle.model.specs.Cut.{operations}
+use Rattle.model.specs.Layout.{operationWords}
 use Rattle.model.specs.Calls.{bytes, requestOf}
-use Rattle.model.specs.Text.{operationLines}
-use Rattle.model.specs.Script.{State, granted, emptied, shows, toldBy, setSpace, bindIn, requestIn, stepOn, step, recordAt, operationsIn}
+use Rattle.program.specs.Text.{operationLines}
+use Rattle.program.specs.Script.{State, granted, emptied, shows, toldBy, setSpace, bindIn, requestIn, stepOn, step, recordAt, operationsIn}
 use Rattle.model.specs.Calls.{lookup}
 use Rattle.model.proofs.Operations.{operations-words}
 use Rattle.model.proofs.Replays.{replay-claim}

@@ -10,8 +10,8 @@ use lib.Dec.{eqb}
 use lib.ListN.{length, getD, length-append}
 use Rattle.model.specs.declared.Shown.the-variants.{Nothing, Object}
 use Rattle.model.specs.Rows.{choose, refused}
-use Rattle.model.specs.Text.{ascii}
-use Rattle.model.specs.Script.{Told, emptied, granted, shows, refusal, otherMark, cut, ended, lines}
+use Rattle.program.specs.Text.{ascii}
+use Rattle.program.specs.Script.{Told, emptied, granted, shows, refusal, otherMark, cut, ended, lines}
 use Rattle.text.specs.Lines.{phraseOf, lineOf, keepOf, oldWords, remapLines, wordLines}
 
 line-some : (word ns : List ℕ) → 1 ≤ length (lineOf word ns)

@@ -10,10 +10,10 @@ use lib.ListN.{length, drop}
 use borrow.Author.Tests.{eq-eqb, ne-eqb, le-leb, lt-leb}
 use Rattle.model.specs.Rows.{choose}
 use Rattle.model.specs.Calls.{littleEndian}
-use Rattle.model.specs.Script.{hasMark, whole, spaceIn, recordAt}
+use Rattle.program.specs.Script.{hasMark, whole, spaceIn, recordAt}
 use Rattle.model.proofs.Numbers.{order}
-use Rattle.model.specs.declared.ScriptRecord.{ScriptRecord}
-use Rattle.model.specs.declared.ScriptRecord.the-variants.{SetSpace, Bind, LookUp, OtherMark, Cut, End}
+use Rattle.program.specs.declared.ScriptRecord.{ScriptRecord}
+use Rattle.program.specs.declared.ScriptRecord.the-variants.{SetSpace, Bind, LookUp, OtherMark, Cut, End}
 
 if-true : {A : Type 0} {b : Bool} (x y : A) → b ≡ true → choose b x y ≡ x
 if-true x y e = ap (λ (b : Bool). choose b x y) e

@@ -9,13 +9,13 @@ use lib.ListN.{length, replicate, length-replicate}
 use Rattle.model.specs.declared.Space.{Space}
 use Rattle.model.specs.declared.Answer.{Answer}
 use Rattle.model.specs.declared.Found.{Found}
-use Rattle.model.specs.declared.ScriptRecord.{ScriptRecord}
-use Rattle.model.specs.declared.ScriptRecord.the-variants.{SetSpace, Bind, LookUp}
+use Rattle.program.specs.declared.ScriptRecord.{ScriptRecord}
+use Rattle.program.specs.declared.ScriptRecord.the-variants.{SetSpace, Bind, LookUp}
 use Rattle.model.specs.Rows.{all, decide}
 use Rattle.model.specs.Rules.{spaceTests}
 use Rattle.model.specs.Calls.{bytes, bind, lookup, answerReply, foundReply}
-use Rattle.model.specs.Script.{recordAt, recordSize, State, emptied, granted, shows, refusal, toldBy, afterBind, requestIn, stepOn, step}
-use Rattle.model.proofs.ScriptRecords.{record-fits}
+use Rattle.program.specs.Script.{recordAt, recordSize, State, emptied, granted, shows, refusal, toldBy, afterBind, requestIn, stepOn, step}
+use Rattle.program.proofs.Records.{record-fits}
 use Rattle.table.specs.Places.{lent}
 use Rattle.words.specs.Words.{cleared}
 use Rattle.script.specs.declared.Stepped.{Stepped}

@@ -4,7 +4,7 @@ use mathlib.Core.Path.{_≡_, refl, sym, ap, _∙_}
 use mathlib.Core.Bool.{Bool, true}
 use mathlib.Core.List.{List, [], _++_, append-assoc, append-nil}
 use Prim.Native.Nat.{ℕ}
-use Rattle.model.specs.Script.{output}
+use Rattle.program.specs.Script.{output}
 use Rattle.script.specs.declared.Progress.{Progress}
 use Rattle.script.specs.Progress.{pending, toCome}
 use Rattle.script.proofs.Coming.{never}

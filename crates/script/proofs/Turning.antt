@@ -9,10 +9,10 @@ use native.Mathlib.Numerals.{add-one}
 use native.Mathlib.Omega.{arith}
 use lib.ListN.{length, take, drop}
 use borrow.Author.Tests.{eq-eqb}
-use Rattle.model.specs.declared.ScriptRecord.{ScriptRecord}
-use Rattle.model.specs.declared.ScriptRecord.the-variants.{Cut, End}
-use Rattle.model.specs.Script.{State, Told, emptied, granted, shows, refusal, otherMark, cut, ended, recordAt, recordSize, Step, step, lines, responseTold}
-use Rattle.model.proofs.ScriptRecords.{record-fits}
+use Rattle.program.specs.declared.ScriptRecord.{ScriptRecord}
+use Rattle.program.specs.declared.ScriptRecord.the-variants.{Cut, End}
+use Rattle.program.specs.Script.{State, Told, emptied, granted, shows, refusal, otherMark, cut, ended, recordAt, recordSize, Step, step, lines, responseTold}
+use Rattle.program.proofs.Records.{record-fits}
 use Rattle.words.proofs.Stored.{stored-none}
 use Rattle.text.specs.Lines.{Put, wordLines}
 use Rattle.script.specs.declared.Progress.{Progress}

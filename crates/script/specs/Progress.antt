@@ -6,9 +6,9 @@ use mathlib.Core.Bool.{Bool, true, false}
 use mathlib.Core.List.{List, [], _++_}
 use Prim.Native.Nat.{ℕ, zero, suc, _+_, _*_, _^_, _≤_, _<_}
 use lib.ListN.{length, take, drop}
-use Rattle.model.specs.declared.ScriptRecord.the-variants.{Cut, End}
+use Rattle.program.specs.declared.ScriptRecord.the-variants.{Cut, End}
 use Rattle.model.specs.Rows.{choose}
-use Rattle.model.specs.Script.{Told, emptied, granted, shows, refusal, otherMark, cut, ended, recordAt, run, start}
+use Rattle.program.specs.Script.{Told, emptied, granted, shows, refusal, otherMark, cut, ended, recordAt, run, start}
 use Rattle.words.specs.Words.{stored}
 use Rattle.text.specs.Lines.{wordLines}
 use Rattle.script.specs.declared.Progress.{Progress}

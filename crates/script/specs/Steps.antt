@@ -4,7 +4,7 @@ use mathlib.Core.Path.{_≡_}
 use mathlib.Core.List.{List}
 use Prim.Native.Nat.{ℕ}
 use Rattle.model.specs.declared.Space.{Space}
-use Rattle.model.specs.Script.{State, Step, responseTold}
+use Rattle.program.specs.Script.{State, Step, responseTold}
 use Rattle.table.specs.Places.{lent}
 use Rattle.script.specs.declared.Stepped.{Stepped}
 

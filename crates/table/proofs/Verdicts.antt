@@ -6,8 +6,7 @@ use lib.ListN.{length}
 use borrow.Author.Tests.{le-leb, lt-leb, eq-eqb, ne-eqb}
 use Rattle.model.specs.declared.Space.{Space}
 use Rattle.model.specs.Rows.{refused, answered, decide, verdict}
-use Rattle.model.specs.Table.{Table, capacity, mappings, badPlace}
-use Rattle.table.specs.Places.{contentRows}
+use Rattle.model.specs.Table.{Table, capacity, mappings, badPlace, contentRows}
 use Rattle.model.proofs.Store.{length-mappings}
 
 module _ (s : Space) (t : Table) where

@@ -10,16 +10,13 @@ use Rattle.model.specs.declared.Mapping.{Mapping}
 use Rattle.model.specs.declared.Space.{Space}
 use Rattle.model.specs.Rows.{choose, Row}
 use Rattle.model.specs.Rules.{limit, end}
-use Rattle.model.specs.Table.{Table, mappingsIn, badPlace, lengthRow, countRow, mappingsRow}
+use Rattle.model.specs.Table.{Table, mappingsIn, badPlace, lengthRow, contentRows}
 
 -- a table in a lent slice of words
 abbrev pub lent : List ℕ → ℕ → Table
 lent ws count = record { words = ws; count = count }
 
--- the rows that look at a table in a space: 4 and 5; and 2 before them
-abbrev pub contentRows : Space → Table → List Row
-contentRows s t = countRow t ∷ mappingsRow s t ∷ []
-
+-- the rows that look at a table alone: 2, 4, 5
 abbrev pub ownRows : Space → Table → List Row
 ownRows s t = lengthRow t ∷ contentRows s t
 

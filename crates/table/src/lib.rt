@@ -11,12 +11,12 @@ ghost use Prim.Native.Nat.{_+_, _*_, _≤_};
 ghost use lib.ListN.{length, drop};
 ghost use Rattle.model.specs.Rows.{all, verdict};
 ghost use Rattle.model.specs.Rules.{limit, spaceTests};
-ghost use Rattle.model.specs.Table.{mappingsIn, wordsOf, written, badPlace, lengthRow};
+ghost use Rattle.model.specs.Table.{mappingsIn, wordsOf, written, badPlace, lengthRow, contentRows};
 ghost use Rattle.model.specs.Cut.{prepend, translate};
 ghost use Rattle.model.specs.Calls.{verdictReply};
 ghost use Rattle.rules.specs.Part.{upTo};
 ghost use Rattle.words.specs.Words.{stored};
-ghost use Rattle.table.specs.Places.{lent, contentRows, ownRows, mappingAt, firstWhere, startsBehind, endsBehind, Valid};
+ghost use Rattle.table.specs.Places.{lent, ownRows, mappingAt, firstWhere, startsBehind, endsBehind, Valid};
 ghost use Rattle.table.specs.Splice.{mappingsOf, spliced, Splice};
 
 // Document 01: a table has room for 1 to so many mappings.

@@ -3,8 +3,8 @@
 use mathlib.Core.Path.{_≡_}
 use Prim.Native.Nat.{ℕ, _+_, _/_, _≤_, _<_}
 use lib.ListN.{length, length-append}
-use Rattle.model.specs.Text.{decimal}
-use Rattle.model.proofs.Decimal.{decimal-small, decimal-step}
+use Rattle.program.specs.Text.{decimal}
+use Rattle.program.proofs.Decimal.{decimal-small, decimal-step}
 
 pub length-one : (n : ℕ) → n < 10 → length (decimal n) ≡ 1
 length-one n h = rw (decimal-small n h)

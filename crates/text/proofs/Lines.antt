@@ -6,7 +6,7 @@ use Prim.Native.Nat.{ℕ}
 use lib.ListN.{getD}
 use borrow.Author.Tests.{ne-eqb}
 use Rattle.model.specs.Rows.{choose}
-use Rattle.model.specs.Text.{ascii}
+use Rattle.program.specs.Text.{ascii}
 use Rattle.text.specs.Lines.{lineOf, keepOf, restOf, oldWords, remapLines, wordLines}
 
 module _ (word rest : List ℕ) where

@@ -7,7 +7,7 @@ use native.Mathlib.Numerals.{add-one}
 use native.Mathlib.Omega.{arith}
 use lib.ListN.{length, getD, take}
 use lib.Seq.{take-suc, take-all}
-use Rattle.model.specs.Text.{decimal, spaced}
+use Rattle.program.specs.Text.{decimal, spaced}
 use Rattle.text.specs.Lines.{Put}
 use Rattle.text.proofs.Puts.{put-none, put-most, put-behind}
 

@@ -11,11 +11,12 @@ use Rattle.model.specs.declared.Operation.{Operation}
 use Rattle.model.specs.declared.Operation.the-variants.{Map, Remap, Unmap}
 use Rattle.model.specs.Rules.{stop}
 use Rattle.model.specs.Table.{wordsOf}
-use Rattle.model.specs.Cut.{lowerPart, upperPart, sized, prepend, new, hits, operationOf, operations, operationWords, rests}
+use Rattle.model.specs.Cut.{lowerPart, upperPart, sized, prepend, new, hits, operationOf, operations, rests}
+use Rattle.model.specs.Layout.{operationWords}
 use Rattle.model.specs.Exactly.{Each}
-use Rattle.model.specs.Text.{ascii, keepLine, operationLines}
+use Rattle.program.specs.Text.{ascii, keepLine, operationLines}
 use Rattle.model.proofs.Actions.{each-append}
-use Rattle.model.proofs.Operations.{rests-parts}
+use Rattle.model.proofs.Left.{rests-parts}
 use Rattle.text.specs.Lines.{lineOf, restOf, remapLines, wordLines}
 use Rattle.text.proofs.Lines.{rest-present, lines-map, lines-remap, lines-unmap}
 

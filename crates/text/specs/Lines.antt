@@ -6,7 +6,7 @@ use Prim.Native.Nat.{ℕ, _+_, _≤_}
 use lib.Dec.{eqb}
 use lib.ListN.{length, getD, take, drop}
 use Rattle.model.specs.Rows.{choose}
-use Rattle.model.specs.Text.{ascii, spaced}
+use Rattle.program.specs.Text.{ascii, spaced}
 use Rattle.words.specs.Words.{stored}
 
 -- the bytes `run` written over those of a slice from `at` on, at most so many; the place behind them

@@ -1,13 +1,13 @@
 // The lines of the script program, written into a lent byte slice from a place on. Every byte is pinned: a promise gives the
 // slice as it is afterwards and the place behind the last byte written.
-use model::Response;
 use model::Shown;
+use program::Response;
 ghost use mathlib.Core.Path.{_≡_};
 ghost use mathlib.Core.List.{[], _∷_};
 ghost use Prim.Native.Nat.{_+_, _*_, _≤_};
 ghost use lib.ListN.{length};
-ghost use Rattle.model.specs.Text.{decimal, spaced, shownLine};
-ghost use Rattle.model.specs.Script.{lines, responseTold};
+ghost use Rattle.program.specs.Text.{decimal, spaced, shownLine};
+ghost use Rattle.program.specs.Script.{lines, responseTold};
 ghost use Rattle.text.specs.Lines.{Put, phraseOf, lineOf, keepOf, restOf, remapLines, wordLines};
 
 // The lines of an operation have no more bytes than this; an answer's line has fewer.

@@ -8,8 +8,8 @@ use Prim.Native.Nat.{ℕ, _+_, _-_, _≤_, _<_}
 use native.Mathlib.Omega.{arith}
 use lib.ListN.{length, take, drop, length-drop}
 use lib.Seq.{drop-drop}
-use Rattle.model.specs.Script.{recordAt}
-use Rattle.model.specs.declared.ScriptRecord.the-variants.{Cut, End}
+use Rattle.program.specs.Script.{recordAt}
+use Rattle.program.specs.declared.ScriptRecord.the-variants.{Cut, End}
 use Rattle.script.specs.declared.Progress.{Progress}
 use Rattle.script.specs.declared.Turned.{Turned}
 use Rattle.script.specs.Progress.{Idle, Advances}

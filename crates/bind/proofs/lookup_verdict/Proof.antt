@@ -1,7 +1,7 @@
 -- `bind::lookup_verdict` meets its contract.
 -- Assumes nothing.
 use Rattle.model.specs.Rows.{decide}
-use Rattle.model.specs.Table.{lookupRows}
+use Rattle.model.specs.Table.{tableRows}
 use Rattle.rules.proofs.Laws.{held, failed}
 use borrow.Author.Needs.{needs}
 use Rattle.bind.proofs.lookup_verdict.Statement.{statement}
@@ -11,14 +11,14 @@ space-keeps-rules-requires : tie.Need-space-keeps-rules-requires
 space-keeps-rules-requires c κs = search needs
 
 returns : tie.Need-returns
-unfolding decide lookupRows
+unfolding decide tableRows
 returns c = simp (failed (c .before .space-keeps-rules .ensures) (c .if1 .taken))
 
 table-verdict-requires : tie.Need-table-verdict-requires
 table-verdict-requires c κs = held (c .before .space-keeps-rules .ensures) (c .if1 .left)
 
 returns-2 : tie.Need-returns-2
-unfolding decide lookupRows
+unfolding decide tableRows
 returns-2 c = simp (held (c .before .before .space-keeps-rules .ensures) (c .before .if1 .left)) (c .table-verdict .ensures)
 
 pub lookup-verdict-spec : {M : Type 1} → statement M

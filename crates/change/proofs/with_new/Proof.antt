@@ -2,13 +2,13 @@
 -- Assumes nothing.
 use mathlib.Core.Path.{sym, _∙_}
 use mathlib.Core.List.{append-nil}
-use Rattle.cut.proofs.Written.{new-map, new-none}
+use Rattle.model.proofs.New.{new-map, new-unmap}
 use borrow.Author.Needs.{needs}
 use Rattle.change.proofs.with_new.Statement.{statement}
 use Rattle.change.proofs.with_new.Tie as tie
 
 returns : tie.Need-returns
-returns c = rw (new-none (c .before .before .args .r) (c .if1 .taken)) (sym (append-nil _))
+returns c = rw (new-unmap (c .before .before .args .r) (c .if1 .taken)) (sym (append-nil _))
 
 new-mapping-requires : tie.Need-new-mapping-requires
 new-mapping-requires c κs = search needs

@@ -33,7 +33,7 @@ returns c =
     let higher = c .before .before .before .before in
     let last = higher .before in
     let start = last .before in
-    upper-is (start .args .r) (start .args .m) (higher .greater .ensures) (c .before .before .distance .ensures) refl (omega (arith, last .last-byte .ensures, start .pre .some))
+    upper-is (start .args .r) (start .args .m) (higher .greater .ensures) (c .before .before .distance .ensures) refl (omega (arith, last .last-byte .ensures, start .pre .not-empty))
 
 pub upper-part-spec : {M : Type 1} → statement M
 upper-part-spec =

@@ -5,7 +5,8 @@ use mathlib.Core.Path.{ap}
 use lib.ListN.{length}
 use Rattle.table.specs.Places.{between}
 use Rattle.table.proofs.Between.{length-between}
-use Rattle.cut.proofs.Written.{room-each, new-map, unmap-written, map-written}
+use Rattle.model.proofs.New.{new-map}
+use Rattle.cut.proofs.Written.{room-each, unmap-written, map-written}
 use borrow.Author.Needs.{needs}
 use Rattle.cut.proofs.write_operations.Statement.{statement}
 use Rattle.cut.proofs.write_operations.Tie as tie

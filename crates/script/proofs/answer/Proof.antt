@@ -2,7 +2,7 @@
 -- Assumes nothing.
 use mathlib.Core.Path.{sym, _∙_}
 use native.Mathlib.Omega.{arith}
-use Rattle.model.proofs.ScriptRecords.{record-fits}
+use Rattle.program.proofs.Records.{record-fits}
 use Rattle.script.proofs.Turning.{answered-turns, waiting-turns}
 use borrow.Author.Needs.{needs}
 use Rattle.script.proofs.answer.Statement.{statement}

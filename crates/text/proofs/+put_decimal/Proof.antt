@@ -2,7 +2,7 @@
 -- Assumes nothing.
 use Prim.Native.Nat.{ℕ, _<_}
 use native.Mathlib.Omega.{arith}
-use Rattle.model.proofs.Decimal.{decimal-small, decimal-step}
+use Rattle.program.proofs.Decimal.{decimal-small, decimal-step}
 use Rattle.text.proofs.Decimals.{length-one, length-more}
 use Rattle.text.proofs.Puts.{put-byte, put-exact, put-behind}
 use borrow.Author.Needs.{needs}

@@ -1,7 +1,7 @@
 -- `text::put_keep` meets its contract.
 -- Assumes nothing.
 use native.Mathlib.Omega.{arith}
-use Rattle.model.specs.Text.{ascii}
+use Rattle.program.specs.Text.{ascii}
 use Rattle.text.proofs.Puts.{put-most, put-behind}
 use borrow.Author.Needs.{needs}
 use Rattle.text.proofs.put_keep.Statement.{statement}

@@ -2,7 +2,7 @@
 -- Assumes nothing.
 use native.Mathlib.Omega.{arith}
 use lib.ListN.{length-set}
-use Rattle.model.proofs.Decimal.{decimal-most}
+use Rattle.program.proofs.Decimal.{decimal-most}
 use Rattle.text.proofs.Puts.{put-byte, put-most, put-behind}
 use borrow.Author.Needs.{needs}
 use Rattle.text.proofs.put_number.Statement.{statement}

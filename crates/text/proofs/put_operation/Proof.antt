@@ -1,7 +1,7 @@
 -- `text::put_operation` meets its contract.
 -- Assumes nothing.
 use native.Mathlib.Omega.{arith}
-use Rattle.model.specs.Text.{ascii}
+use Rattle.program.specs.Text.{ascii}
 use Rattle.text.proofs.Puts.{put-most}
 use Rattle.text.proofs.Lines.{lines-map, lines-remap, lines-unmap}
 use borrow.Author.Needs.{needs}

@@ -4,7 +4,7 @@ use Prim.Native.Nat.{_-_}
 use native.Mathlib.Omega.{arith}
 use lib.ListN.{length, getD, drop, length-drop}
 use lib.Seq.{take-all}
-use Rattle.model.specs.Text.{ascii}
+use Rattle.program.specs.Text.{ascii}
 use Rattle.text.specs.Lines.{keepOf, oldWords, remapLines}
 use Rattle.text.proofs.Puts.{put-most, put-behind}
 use borrow.Author.Needs.{needs}

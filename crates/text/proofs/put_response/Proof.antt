@@ -2,7 +2,7 @@
 -- Assumes nothing.
 use mathlib.Core.List.{flatMap, append-nil}
 use native.Mathlib.Omega.{arith}
-use Rattle.model.specs.Text.{ascii}
+use Rattle.program.specs.Text.{ascii}
 use Rattle.text.proofs.Puts.{put-none, put-most}
 use borrow.Author.Needs.{needs}
 use Rattle.text.proofs.put_response.Statement.{statement}

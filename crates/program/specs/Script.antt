@@ -1,15 +1,16 @@
 -- The script program (document 01): what stands at a place of a script, what one record does, and all that a script prints.
-use Rattle.model.specs.Prelude.{Bool, _&&_, List, [], _∷_, _++_, flatMap, ℕ, zero, suc, _+_, _*_, leb, eqb, length, getD, take, drop, replicate, Space, Operation, Shown, Grant}
+use Rattle.model.specs.Prelude.{Bool, _&&_, List, [], _∷_, _++_, flatMap, ℕ, zero, suc, _+_, _*_, leb, eqb, length, getD, take, drop, replicate}
+use Rattle.program.specs.Prelude.{Space, Operation, Shown, Grant}
 use Rattle.model.specs.Rows.{choose, Reply, refused, answered, decide}
 use Rattle.model.specs.Rules.{spaceRow}
 use Rattle.model.specs.Table.{Table, capacity, mappings}
 use Rattle.model.specs.Cut.{operations}
 use Rattle.model.specs.Calls.{littleEndian, requestOf, recordBytes, spaceOf, bytes, Outcome, bind, tableAfter, lookup, numbered}
-use Rattle.model.specs.Text.{line, operationLines, shownLine}
-use Rattle.model.specs.declared.ScriptRecord.{ScriptRecord}
-use Rattle.model.specs.declared.ScriptRecord.the-variants.{SetSpace, Bind, LookUp, OtherMark, Cut, End}
-use Rattle.model.specs.declared.Response.{Response}
-use Rattle.model.specs.declared.Response.the-variants.{Emptied, Granted, Shows, Refused, OtherMark as MarkResponse, Cut as CutResponse, End as EndResponse}
+use Rattle.program.specs.Text.{line, operationLines, shownLine}
+use Rattle.program.specs.declared.ScriptRecord.{ScriptRecord}
+use Rattle.program.specs.declared.ScriptRecord.the-variants.{SetSpace, Bind, LookUp, OtherMark, Cut, End}
+use Rattle.program.specs.declared.Response.{Response}
+use Rattle.program.specs.declared.Response.the-variants.{Emptied, Granted, Shows, Refused, OtherMark as MarkResponse, Cut as CutResponse, End as EndResponse}
 
 -- ── what stands at the front of the bytes ──
 

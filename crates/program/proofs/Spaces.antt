@@ -4,14 +4,14 @@ use mathlib.Core.Path.{_≡_, ap, _∙_}
 use mathlib.Core.Logic.{⊎-elim}
 use mathlib.Core.List.{[]}
 use Prim.Native.Nat.{ℕ}
 use Rattle.model.specs.Rows.{Reply}
 use Rattle.model.specs.Rules.{spaceRow}
 use Rattle.model.specs.Table.{capacity}
-use Rattle.model.specs.Script.{emptied, toldBy, afterSpace, setSpace, stepOn, step}
-use Rattle.model.specs.Scripts.{SetsSpace}
-use Rattle.model.specs.declared.ScriptRecord.{ScriptRecord}
+use Rattle.program.specs.Script.{emptied, toldBy, afterSpace, setSpace, stepOn, step}
+use Rattle.program.specs.Claims.{SetsSpace}
+use Rattle.program.specs.declared.ScriptRecord.{ScriptRecord}
 use Rattle.model.proofs.Rows.{last-row}
 use Rattle.model.proofs.Rules.{space-says}
 
 pub sets-space : SetsSpace
 unfolding step

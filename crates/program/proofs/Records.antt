@@ -10,13 +10,13 @@ use lib.Dec.{eqb}
 use lib.ListN.{length, take, drop, length-append, length-drop}
 use lib.Seq.{length-take-le, take-append-le, drop-append-le}
 use borrow.Author.Tests.{le-leb, lt-leb, eqb-false, ne-eqb}
 use Rattle.model.specs.Rows.{choose}
 use Rattle.model.specs.Calls.{littleEndian, recordBytes}
-use Rattle.model.specs.Script.{hasMark, whole, spaceIn, recordAt, recordSize, State, requestIn, stepOn, step, lines, operationsIn, run}
-use Rattle.model.specs.Scripts.{Prefix}
-use Rattle.model.specs.declared.ScriptRecord.{ScriptRecord}
-use Rattle.model.specs.declared.ScriptRecord.the-variants.{SetSpace, Bind, LookUp, OtherMark, Cut, End}
+use Rattle.program.specs.Script.{hasMark, whole, spaceIn, recordAt, recordSize, State, requestIn, stepOn, step, lines, operationsIn, run}
+use Rattle.program.specs.Claims.{Prefix}
+use Rattle.program.specs.declared.ScriptRecord.{ScriptRecord}
+use Rattle.program.specs.declared.ScriptRecord.the-variants.{SetSpace, Bind, LookUp, OtherMark, Cut, End}
 use Rattle.model.proofs.Numbers.{order}
 
 -- ── bytes behind ──
 

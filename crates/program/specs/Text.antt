@@ -1,9 +1,10 @@
 -- The lines that the script program writes (document 01: The script program), byte by byte.
 use Prim.Native.Char.{code}
 use Prim.Native.String.{String, [] as noText, _∷_ as _then_}
-use Rattle.model.specs.Prelude.{Bool, List, [], _∷_, _++_, ℕ, zero, suc, _+_, _/_, _%_, ltb, Mapping, Rests, Lower, Upper, Both, Operation, Map, Remap, Unmap, Shown, Nothing, Object}
+use Rattle.model.specs.Prelude.{Bool, List, [], _∷_, _++_, ℕ, zero, suc, _+_, _/_, _%_, ltb}
+use Rattle.program.specs.Prelude.{Mapping, Rests, Lower, Upper, Both, Operation, Map, Remap, Unmap, Shown, Nothing, Object}
 use Rattle.model.specs.Rows.{choose}
 use Rattle.model.specs.Table.{wordsOf}
 
 -- a text's bytes
 unfoldable pub ascii : String → List ℕ

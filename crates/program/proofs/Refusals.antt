@@ -8,37 +8,39 @@ use Prim.Native.Nat.{ℕ, _≤_}
 use lib.Dec.{T, eqb}
 use lib.ListN.{length, length-replicate}
 use borrow.Author.Tests.{eqb-true}
-use Rattle.model.specs.Prelude.{Space, Request, Grant}
+use Rattle.program.specs.Prelude.{Space, Request, Grant}
 use Rattle.model.specs.Rows.{all, choose, Row, Reply, refused, answered, decide}
 use Rattle.model.specs.Rules.{spaceRow, formRows, requestRows}
-use Rattle.model.specs.Table.{Table, capacity, mappingsIn, badPlace, lengthRow, operationsRow, countRow, mappingsRow, tableRows, lookupRows}
-use Rattle.model.specs.Calls.{requestOf, bytes, roomRow, bindRows, outcomeFor, countAfter, bind, lookup}
+use Rattle.model.specs.Table.{Table, capacity, mappingsIn, badPlace, lengthRow, operationsRow, countRow, mappingsRow, contentRows, tableRows}
+use Rattle.model.specs.Calls.{requestOf, bytes, roomRow, bindRows, outcomeFor, countAfter, tableAfter, bind, lookup}
 use Rattle.model.specs.Exactly.{_∈_, Each}
-use Rattle.model.specs.Script.{recordAt, recordSize, State, Told, emptied, granted, shows, refusal, otherMark, cut, ended, toldBy, afterBind, requestIn, bindIn, stepOn, step, start}
-use Rattle.model.specs.Scripts.{Reached, started, stepped, NeverBroken}
-use Rattle.model.specs.declared.ScriptRecord.{ScriptRecord}
-use Rattle.model.specs.declared.ScriptRecord.the-variants.{SetSpace, Bind, LookUp, OtherMark, Cut, End}
+use Rattle.program.specs.Script.{recordAt, recordSize, State, Told, emptied, granted, shows, refusal, otherMark, cut, ended, toldBy, afterBind, requestIn, bindIn, stepOn, step, start}
+use Rattle.program.specs.Claims.{Reached, started, stepped, NeverBroken}
+use Rattle.program.specs.declared.ScriptRecord.{ScriptRecord}
+use Rattle.program.specs.declared.ScriptRecord.the-variants.{SetSpace, Bind, LookUp, OtherMark, Cut, End}
 use Rattle.model.proofs.Tests.{tests, Alls, not-facts}
+use Rattle.model.proofs.Actions.{each-append}
 use Rattle.model.proofs.Rows.{answered-passed, last-row}
+use Rattle.model.proofs.Groups.{table-passed}
 use Rattle.model.proofs.Rules.{space-says}
 use Rattle.model.proofs.Exactly.{exactly}
 use Rattle.model.proofs.Demand2.{demand-2}
 use Rattle.model.proofs.Replays.{replay-claim}
-use Rattle.model.proofs.ScriptRecords.{record-fits, request-length}
-use Rattle.model.proofs.ScriptSpaces.{sets-space}
+use Rattle.program.proofs.Records.{record-fits, request-length}
+use Rattle.program.proofs.Spaces.{sets-space}
 
 -- ── the states that the program comes to ──
 
 -- the rows that look at the table pass, whatever the space
 record Sound (st : State) : Type 0 where
-  two : Alls (lengthRow (st .table) .tests)
-  three : Alls (operationsRow (length (st .operations)) (st .table) .tests)
-  four : Alls (countRow (st .table) .tests)
-  five : Alls (mappingsRow (st .space) (st .table) .tests)
+  length-right : Alls (lengthRow (st .table) .tests)
+  operations-fit : Alls (operationsRow (length (st .operations)) (st .table) .tests)
+  count : Alls (countRow (st .table) .tests)
+  places : Alls (mappingsRow (st .space) (st .table) .tests)
 
 sound-start : Sound start
 unfolding mappingsIn badPlace
-sound-start = record { two = (tt, (tt, (tt, tt))); three = (tt, tt); four = (tt, tt); five = (tt, tt) }
+sound-start = record { length-right = (tt, (tt, (tt, tt))); operations-fit = (tt, tt); count = (tt, tt); places = (tt, tt) }
 
 sound-space : (st : State) (bs : List ℕ) (s : Space) → recordAt bs ≡ SetSpace s → Sound st → Sound (step st bs .state)
 unfolding mappingsIn badPlace
@@ -46,15 +48,15 @@ sound-space st bs s e h =
     let l = length-replicate {A = ℕ} (length (st .table .words)) 0 in
     ⊎-elim
     (λ y. rw (sets-space st bs s e .granted (space-says s .0 (y .0))) (record {
-      two = omega (tests, l, h .two);
-      three = omega (tests, l, h .three);
-      four = omega (tests, l);
-      five = (tt, tt);
+      length-right = omega (tests, l, h .length-right);
+      operations-fit = omega (tests, l, h .operations-fit);
+      count = omega (tests, l);
+      places = (tt, tt);
     }))
     (λ n. rw (sets-space st bs s e .refused (λ r. n .0 (space-says s .1 r))) h) (last-row [] (spaceRow s) (capacity (st .table)) tt)
 
 sound-bind : (st : State) (bs : List ℕ) → Sound st → Sound (afterBind st (bindIn st bs))
-unfolding lookup lookupRows
+unfolding lookup
 sound-bind st bs h = go (bindIn st bs .answer) refl
   where
     t : Table
@@ -67,8 +69,14 @@ sound-bind st bs h = go (bindIn st bs .answer) refl
     go (answered g) e =
         let f = demand-2 (st .space) t (st .operations) (bytes (requestIn bs)) g e in
         let w = replay-claim (st .space) t (st .operations) (bytes (requestIn bs)) g e in
-        let l = answered-passed (lookupRows (st .space) _) _ _ (f .answers 0) .0 in
-        record { two = l .1 .0; three = omega (tests, h .three, f .zeros .1, w .words .1); four = l .1 .1 .0; five = l .1 .1 .1 .0 }
+        let u = tableAfter t (bindIn st bs) in
+        let l = table-passed (st .space) [] u (answered-passed (tableRows (st .space) [] u) _ _ (f .answers 0) .0) in
+        record {
+          length-right = l .length-right;
+          operations-fit = omega (tests, h .operations-fit, f .zeros .1, w .words .1);
+          count = l .count;
+          places = l .places;
+        }
 
 sound-step : (r : ScriptRecord) (st : State) (bs : List ℕ) → recordAt bs ≡ r → Sound st → Sound (step st bs .state)
 unfolding step
@@ -123,27 +131,46 @@ decide-holds P (w ∷ ws) a h k = go (all (w .tests)) refl (h .0) (decide-holds 
     go false e (inl h) k = absurd (not-facts (w .tests) e h)
     go false e (inr h) k = h
 
+-- a row passes, or its number may be told
+abbrev Tellable : Row → Type 0
+Tellable w = Alls (w .tests) ⊎ T (among (w .number) numbers)
+
+table-tellable : (st : State) (between : List Row) → Sound st → Each Tellable between → Each Tellable (tableRows (st .space) between (st .table))
+unfolding tableRows
+table-tellable st between h k =
+    (inr tt, (inl (h .length-right), each-append Tellable between (contentRows (st .space) (st .table)) k (inl (h .count), (inl (h .places), tt))))
+
+form-tellable : (r : Request) → Each Tellable (formRows r)
+unfolding formRows
+form-tellable r = (inr tt, (inr tt, tt))
+
+request-tellable : (s : Space) (r : Request) → Each Tellable (requestRows s r)
+unfolding requestRows
+request-tellable s r = (inr tt, (inr tt, (inr tt, (inr tt, (inr tt, tt)))))
+
 bind-allowed : (st : State) (bs : List ℕ) → Sound st → length bs ≡ 40
     → Allowed (toldBy granted (bind (st .space) (st .table) (st .operations) (bytes bs) .answer))
-unfolding bind bindRows formRows tableRows requestRows
-bind-allowed st bs h e = decide-holds (λ u. Allowed (toldBy granted (outcomeFor u r (st .table) (st .operations) .answer))) rows _
-    (inl (omega tests), (inr tt, (inr tt, (inr tt, (inl (h .two), (inl (h .three), (inl (h .four), (inl (h .five), asks)))))))) tt
+unfolding bind bindRows
+bind-allowed st bs h e = decide-holds (λ u. Allowed (toldBy granted (outcomeFor u r (st .table) (st .operations) .answer)))
+    (bindRows (st .space) (st .table) (length (st .operations)) (bytes bs)) _ (
+      inl (omega tests),
+      each-append Tellable (formRows r) _ (form-tellable r)
+          (each-append Tellable (tableRows (st .space) between (st .table)) _ (table-tellable st between h (inl (h .operations-fit), tt))
+          (each-append Tellable (requestRows (st .space) r) (roomRow (st .table) r ∷ []) (request-tellable (st .space) r) (inr tt, tt))),
+    ) tt
   where
     r : Request
     r = requestOf bs
 
-    rows : List Row
-    rows = bindRows (st .space) (st .table) (length (st .operations)) (bytes bs)
-
-    asks : Each (λ w. Alls (w .tests) ⊎ T (among (w .number) numbers)) (requestRows (st .space) r ++ roomRow (st .table) r ∷ [])
-    asks = (inr tt, (inr tt, (inr tt, (inr tt, (inr tt, (inr tt, tt))))))
+    between : List Row
+    between = operationsRow (length (st .operations)) (st .table) ∷ []
 
 told-allowed : (r : ScriptRecord) (st : State) (bs : List ℕ) → Sound st → recordSize r ≤ length bs → Allowed (stepOn r st bs .told)
-unfolding lookup lookupRows
+unfolding lookup
 told-allowed (SetSpace s) st bs h k = decide-holds (λ u. Allowed (toldBy emptied u)) (spaceRow s ∷ []) (capacity (st .table)) (inr tt, tt) tt
 told-allowed Bind st bs h k = bind-allowed st (requestIn bs) h (request-length bs k)
 told-allowed (LookUp x) st bs h k =
-    decide-holds (λ u. Allowed (toldBy (shows x) u)) (lookupRows (st .space) (st .table)) _ (inr tt, (inl (h .two), (inl (h .four), (inl (h .five), tt)))) tt
+    decide-holds (λ u. Allowed (toldBy (shows x) u)) (tableRows (st .space) [] (st .table)) _ (table-tellable st [] h tt) tt
 told-allowed OtherMark st bs h k = tt
 told-allowed Cut st bs h k = tt
 told-allowed End st bs h k = tt

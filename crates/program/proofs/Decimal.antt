@@ -8,11 +8,11 @@ use native.Mathlib.Nat.{pow-suc}
 use native.Mathlib.Omega.{arith}
 use lib.ListN.{length, getD, length-append}
 use borrow.Author.Tests.{lt-ltb, le-ltb}
-use Rattle.model.specs.Text.{digit, digits, decimal}
+use Rattle.program.specs.Text.{digit, digits, decimal}
 use Rattle.model.specs.Exactly.{Each}
-use Rattle.model.specs.Scripts.{readDecimal, Decimal}
+use Rattle.program.specs.Claims.{readDecimal, Decimal}
 use Rattle.model.proofs.Actions.{each-append}
 use Rattle.model.proofs.Numbers.{order}
 
 -- ── one digit more ──
 

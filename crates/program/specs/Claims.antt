@@ -1,11 +1,12 @@
 -- What is claimed of the script program: its numbers, its records, the space that it sets, the refusals that it can give, and what some scripts print.
 use Prim.Native.String.{String}
-use Rattle.model.specs.Prelude.{_≡_, _⊎_, List, [], _∷_, _++_, ℕ, _+_, _-_, _*_, _/_, _^_, _≤_, _<_, length, getD, replicate, Space, Request}
+use Rattle.model.specs.Prelude.{_≡_, _⊎_, List, [], _∷_, _++_, ℕ, _+_, _-_, _*_, _/_, _^_, _≤_, _<_, length, getD, replicate}
+use Rattle.program.specs.Prelude.{Space, Request}
 use Rattle.model.specs.Calls.{byNumbers, bytesOf, recordOf, spaceOf}
 use Rattle.model.specs.Exactly.{Each, _∈_, SpaceRules, Pins}
-use Rattle.model.specs.Text.{ascii, decimal}
-use Rattle.model.specs.Script.{recordAt, requestIn, State, emptied, refusal, step, start, output, responseTold}
-use Rattle.model.specs.declared.ScriptRecord.the-variants.{SetSpace, Bind, LookUp, Cut, End}
+use Rattle.program.specs.Text.{ascii, decimal}
+use Rattle.program.specs.Script.{recordAt, requestIn, State, emptied, refusal, step, start, output, responseTold}
+use Rattle.program.specs.declared.ScriptRecord.the-variants.{SetSpace, Bind, LookUp, Cut, End}
 
 -- the number that decimal digits say, behind the number n
 abbrev pub readDecimal : ℕ → List ℕ → ℕ
@@ -22,7 +23,8 @@ pub record Decimal : Type 0 where
 -- ── records ──
 
 abbrev pub setSpaceBytes : ℕ → ℕ → ℕ → ℕ → List ℕ
-setSpaceBytes start size from length = ascii "SP" ++ (bytesOf 8 start ++ (bytesOf 8 size ++ (bytesOf 8 from ++ bytesOf 8 length)))
+setSpaceBytes address size reservedAddress reservedSize =
+    ascii "SP" ++ (bytesOf 8 address ++ (bytesOf 8 size ++ (bytesOf 8 reservedAddress ++ bytesOf 8 reservedSize)))
 
 abbrev pub requestBytes : Request → List ℕ
 requestBytes r = ascii "RQ" ++ recordOf r
@@ -32,8 +34,8 @@ lookUpBytes x = ascii "LK" ++ bytesOf 8 x
 
 -- a record is read as it was written: the marks, and the places of the numbers
 pub record ScriptReadsBack : Type 0 where
-  pub space : (start size from length : ℕ) → Each (λ x. x < 2 ^ 64) (start ∷ size ∷ from ∷ length ∷ [])
-      → recordAt (setSpaceBytes start size from length) ≡ SetSpace (spaceOf start size from length)
+  pub space : (address size reservedAddress reservedSize : ℕ) → Each (λ x. x < 2 ^ 64) (address ∷ size ∷ reservedAddress ∷ reservedSize ∷ [])
+      → recordAt (setSpaceBytes address size reservedAddress reservedSize) ≡ SetSpace (spaceOf address size reservedAddress reservedSize)
   pub request : (r : Request) → (recordAt (requestBytes r) ≡ Bind) × (requestIn (requestBytes r) ≡ recordOf r)
   pub address : (x : ℕ) → x < 2 ^ 64 → recordAt (lookUpBytes x) ≡ LookUp x
 

@@ -1,0 +1,4 @@
+pub mod Prelude
+pub mod Text
+pub mod Script
+pub mod Claims
