@@ -121,6 +121,15 @@ run (suc k) st p bs =
     lines p (operationsIn st bs) (step st bs .told)
     ++ choose (eqb (recordSize (recordAt bs)) 0) [] (run k (step st bs .state) (p + recordSize (recordAt bs)) (drop (recordSize (recordAt bs)) bs))
 
+-- what the records at the front of the bytes leave, of which there are at most k
+unfoldable pub stateAfter : ℕ → State → List ℕ → State
+stateAfter zero st bs = st
+stateAfter (suc k) st bs =
+    choose (eqb (recordSize (recordAt bs)) 0) st (stateAfter k (step st bs .state) (drop (recordSize (recordAt bs)) bs))
+
+unfoldable pub leaves : State → List ℕ → State
+leaves st bs = stateAfter (length bs) st bs
+
 -- a table of 256 mappings that starts as zeros, and a space of four zeros
 abbrev pub programMappings : ℕ
 programMappings = 256
