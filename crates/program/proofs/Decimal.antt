@@ -10,7 +10,7 @@ use lib.ListN.{length, getD, length-append}
 use borrow.Author.Tests.{lt-ltb, le-ltb}
 use Rattle.program.specs.Text.{digit, digits, decimal}
 use Rattle.model.specs.Exactly.{Each}
-use Rattle.program.specs.Claims.{readDecimal, Decimal}
+use Rattle.program.specs.Lines.{readDecimal, Decimal}
 use Rattle.model.proofs.Actions.{each-append}
 use Rattle.model.proofs.Numbers.{order}
 

@@ -1,6 +1,8 @@
 pub mod Printed
 pub mod Decimal
+pub mod Lines
 pub mod Records
+pub mod Order
 pub mod Written
 pub mod Spaces
 pub mod Refusals

@@ -1,24 +1,14 @@
--- What is claimed of the script program: its numbers, its records, the space that it sets, the refusals that it can give, and what some scripts print.
+-- What is claimed of the script program: its records, the order in which it takes them, what each does, the refusals that it can give, and
+-- what some scripts print.
 use Prim.Native.String.{String}
-use Rattle.model.specs.Prelude.{_≡_, _⊎_, List, [], _∷_, _++_, ℕ, _+_, _-_, _*_, _/_, _^_, _≤_, _<_, length, getD, replicate}
-use Rattle.program.specs.Prelude.{Space, Request}
-use Rattle.model.specs.Calls.{byNumbers, bytesOf, recordOf, spaceOf}
+use Rattle.model.specs.Prelude.{_≡_, _⊎_, List, [], _∷_, _++_, ℕ, _+_, _*_, _/_, _^_, _<_, length, take, drop, replicate}
+use Rattle.model.specs.Calls.{refused, answered, mappings, operations, byNumbers, bytesOf, requestOf, recordOf, spaceOf, bytes, Outcome, bind, lookup}
 use Rattle.model.specs.Exactly.{Each, _∈_, SpaceRules, Pins}
+use Rattle.program.specs.Prelude.{Space, Request, Shown, Grant}
 use Rattle.program.specs.Text.{ascii, decimal}
-use Rattle.program.specs.Script.{recordAt, requestIn, State, emptied, refusal, step, start, output, responseTold}
-use Rattle.program.specs.declared.ScriptRecord.the-variants.{SetSpace, Bind, LookUp, Cut, End}
-
--- the number that decimal digits say, behind the number n
-abbrev pub readDecimal : ℕ → List ℕ → ℕ
-readDecimal n [] = n
-readDecimal n (d ∷ ds) = readDecimal (10 * n + (d - 48)) ds
-
--- a number's text is read back, and has digits alone, and no zero in front
-pub record Decimal : Type 0 where
-  pub reads-back : (n : ℕ) → readDecimal 0 (decimal n) ≡ n
-  pub digits : (n : ℕ) → Each (λ d. (48 ≤ d) × (d ≤ 57)) (decimal n)
-  pub one-digit : (n : ℕ) → n < 10 → decimal n ≡ (48 + n) ∷ []
-  pub no-zero : (n : ℕ) → 10 ≤ n → 48 < getD (decimal n) 0 0
+use Rattle.program.specs.Script.{recordAt, requestIn, State, emptied, granted, shows, refusal, step, lines, run, start, output, responseTold}
+use Rattle.program.specs.declared.ScriptRecord.{ScriptRecord}
+use Rattle.program.specs.declared.ScriptRecord.the-variants.{SetSpace, Bind, LookUp, OtherMark, Cut, End}
 
 -- ── records ──
 
@@ -43,6 +33,63 @@ pub record ScriptReadsBack : Type 0 where
 abbrev pub Prefix : Type 0
 Prefix = (bs more : List ℕ) → (recordAt bs ≡ Cut) ⊎ ((recordAt bs ≡ End)
     ⊎ ((recordAt (bs ++ more) ≡ recordAt bs) × ((st : State) → step st (bs ++ more) ≡ step st bs)))
+
+-- the request's bytes, two behind the mark, asked in the program's space and lent words
+abbrev pub bindAt : State → List ℕ → Outcome
+bindAt st bs = bind (st .space) (st .table) (st .operations) (bytes (take 40 (drop 2 bs)))
+
+-- what stands at the front of the bytes where no record does: nothing; one byte; a known mark with too few bytes behind it; another mark,
+-- whatever stands behind it
+pub record Fronts : Type 0 where
+  pub nothing : recordAt [] ≡ End
+  pub one-byte : (a : ℕ) → recordAt (a ∷ []) ≡ Cut
+  pub cut-space : (bs : List ℕ) → length bs < 32 → recordAt (ascii "SP" ++ bs) ≡ Cut
+  pub cut-request : (bs : List ℕ) → length bs < 40 → recordAt (ascii "RQ" ++ bs) ≡ Cut
+  pub cut-address : (bs : List ℕ) → length bs < 8 → recordAt (ascii "LK" ++ bs) ≡ Cut
+  pub other : (a b : ℕ) (bs : List ℕ) → Each (λ mark. a ∷ b ∷ [] ≡ ascii mark → ⊥) ("SP" ∷ "RQ" ∷ "LK" ∷ []) → recordAt (a ∷ b ∷ bs) ≡ OtherMark
+
+-- a record takes its mark's two bytes and those behind it
+abbrev pub Takes : ScriptRecord → ℕ → Type 0
+Takes (SetSpace s) n = n ≡ 2 + 4 * 8
+Takes Bind n = n ≡ 2 + 40
+Takes (LookUp x) n = n ≡ 2 + 8
+Takes OtherMark n = ⊥
+Takes Cut n = ⊥
+Takes End n = ⊥
+
+-- what is printed for bytes whose first stands at the place p of the script: a record's lines, and then what the bytes behind it give; at
+-- another mark and at a cut the place, and nothing more
+pub record InOrder (st : State) (p : ℕ) (bs : List ℕ) : Type 0 where
+  pub goes-on : (n : ℕ) → Takes (recordAt bs) n → run (length bs) st p bs
+      ≡ lines p (operations (requestOf (take 40 (drop 2 bs))) (mappings (st .table))) (step st bs .told)
+      ++ run (length (drop n bs)) (step st bs .state) (p + n) (drop n bs)
+  pub stops-mark : recordAt bs ≡ OtherMark → run (length bs) st p bs ≡ ascii "mark " ++ (decimal p ++ ascii "\n")
+  pub stops-cut : recordAt bs ≡ Cut → run (length bs) st p bs ≡ ascii "cut " ++ (decimal p ++ ascii "\n")
+  pub stops-end : recordAt bs ≡ End → run (length bs) st p bs ≡ []
+
+-- a whole script: from a table of 256 mappings that starts as zeros, and a space of four zeros; its first byte is at the place 0
+pub record RunsInOrder : Type 0 where
+  pub from : (bs : List ℕ) → output bs ≡ run (length bs) (record {
+    space = spaceOf 0 0 0 0;
+    table = record { words = replicate 1024 0; count = 0 };
+    operations = replicate 3598 0;
+  }) 0 bs
+  pub on : (st : State) (p : ℕ) (bs : List ℕ) → InOrder st p bs
+
+-- `RQ` does what the call by record does, on the 40 bytes behind the mark; `LK` what a look-up does, and changes nothing
+pub record Does (st : State) (bs : List ℕ) : Type 0 where
+  pub binds : (g : Grant) → recordAt bs ≡ Bind → bindAt st bs .answer ≡ answered g → step st bs ≡ record {
+    told = granted g;
+    state = record { space = st .space; table = record { words = bindAt st bs .table; count = g .count }; operations = bindAt st bs .operations };
+  }
+  pub refuses : (n p : ℕ) → recordAt bs ≡ Bind → bindAt st bs .answer ≡ refused n p → step st bs ≡ record { told = refusal n p; state = st }
+  pub looks : (x : ℕ) (v : Shown) → recordAt bs ≡ LookUp x → lookup (st .space) (st .table) x ≡ answered v
+      → step st bs ≡ record { told = shows x v; state = st }
+  pub looks-refused : (x n p : ℕ) → recordAt bs ≡ LookUp x → lookup (st .space) (st .table) x ≡ refused n p
+      → step st bs ≡ record { told = refusal n p; state = st }
+
+abbrev pub DoesCalls : Type 0
+DoesCalls = (st : State) (bs : List ℕ) → Does st bs
 
 -- `SP` with the space s: granted, it sets count 0 and every table word zero; refused, it changes nothing
 pub record Sets (st : State) (bs : List ℕ) (s : Space) : Type 0 where

@@ -1,4 +1,5 @@
 pub mod Prelude
 pub mod Text
 pub mod Script
+pub mod Lines
 pub mod Claims
