@@ -5,10 +5,11 @@ use mathlib.Core.List.{List, [], _∷_, _++_, append-assoc}
 use Prim.Native.Nat.{ℕ, _<_}
 use Rattle.model.specs.Prelude.{Space, Request}
 use Rattle.model.specs.Rows.{Row, Reply, refused}
-use Rattle.model.specs.Rules.{spaceTests, opRow, flagsRow, alignmentRow, insideRow, reservationRow, objectRow, offsetRow, formRows, requestRows}
+use Rattle.model.specs.Rules.{spaceTests, spaceRow, opRow, flagsRow, alignmentRow, insideRow, reservationRow, objectRow, offsetRow, formRows, requestRows}
 use Rattle.model.specs.Table.{Table, mappings, lengthRow, operationsRow, countRow, mappingsRow, contentRows, tableRows}
-use Rattle.model.specs.Exactly.{RefusalTable, formLines, requestLines, contentLines, tableLines, operationsLine, refusal, TableRules}
+use Rattle.model.specs.Exactly.{Each, RefusalTable, formLines, requestLines, contentLines, tableLines, operationsLine, refusal, TableRules}
 use Rattle.model.proofs.Tests.{tests, Alls}
+use Rattle.model.proofs.Actions.{each-append}
 use Rattle.model.proofs.Rows.{Passed, passed-split, passed-join, Match}
 use Rattle.model.proofs.Rules.{apart-shares, shares-apart, space-says, object-says, offset-says}
 use Rattle.model.proofs.Table.{table-says}
@@ -65,6 +66,23 @@ request-passed s r (six, (seven, (eight, (nine, (ten, _))))) =
 pub passed-request : {s : Space} {r : Request} → RequestPassed s r → Passed (requestRows s r)
 unfolding requestRows
 passed-request p = (p .alignment, (p .range, (p .reservation, (p .object, (p .offset, tt)))))
+
+-- ── what holds of each row of a group ──
+
+module _ (P : Row → Type 0) where
+  pub each-table : (s : Space) (between : List Row) (t : Table) → P (spaceRow s) → P (lengthRow t) → Each P between → P (countRow t) → P (mappingsRow s t)
+      → Each P (tableRows s between t)
+  unfolding tableRows
+  each-table s between t one two others four five = (one, (two, each-append P between (contentRows s t) others (four, (five, tt))))
+
+  pub each-form : (r : Request) → P (opRow r) → P (flagsRow r) → Each P (formRows r)
+  unfolding formRows
+  each-form r thirteen fourteen = (thirteen, (fourteen, tt))
+
+  pub each-request : (s : Space) (r : Request) → P (alignmentRow r) → P (insideRow s r) → P (reservationRow s r) → P (objectRow r) → P (offsetRow r)
+      → Each P (requestRows s r)
+  unfolding requestRows
+  each-request s r six seven eight nine ten = (six, (seven, (eight, (nine, (ten, tt)))))
 
 -- ── rows and lines, f being how an answer is read ──
 

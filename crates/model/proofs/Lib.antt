@@ -8,9 +8,9 @@ pub mod Run
 pub mod Translate
 pub mod New
 pub mod Hits
+pub mod OperationWords
 pub mod Operations
 pub mod Keep
-pub mod OperationWords
 pub mod Left
 pub mod Counts
 pub mod Replay

@@ -12,6 +12,7 @@ use Rattle.model.specs.Rules.{end, stop}
 use Rattle.model.specs.Cut.{lowerPart, upperPart, new, hits, operationFor, operationOf, operations, old}
 use Rattle.model.specs.Layout.{operationWords}
 use Rattle.model.specs.Exactly.{_∈_, ShareByte, Ascends}
+use Rattle.model.proofs.OperationWords.{operation-layout}
 use Rattle.model.proofs.New.{new-most}
 use Rattle.model.proofs.Hits.{hits-hit, hit-hits, hits-ordered, hits-most}
 
@@ -59,11 +60,11 @@ operations-words [] = refl
 operations-words (o ∷ os) = omega (arith, length-append (operationWords o) (flatMap operationWords os), each-words o, operations-words os)
   where
     each-words : (o : Operation) → length (operationWords o) ≡ 14
-    each-words (Map m) = refl
-    each-words (Remap k m (Lower l)) = refl
-    each-words (Remap k m (Upper u)) = refl
-    each-words (Remap k m (Both l u)) = refl
-    each-words (Unmap k m) = refl
+    each-words (Map m) = ap length (operation-layout (Map m))
+    each-words (Remap k m (Lower l)) = ap length (operation-layout (Remap k m (Lower l)))
+    each-words (Remap k m (Upper u)) = ap length (operation-layout (Remap k m (Upper u)))
+    each-words (Remap k m (Both l u)) = ap length (operation-layout (Remap k m (Both l u)))
+    each-words (Unmap k m) = ap length (operation-layout (Unmap k m))
 
 pub operations-most : (r : Request) (ms : List Mapping) → length (operations r ms) ≤ length ms + 1
 unfolding operations

@@ -6,7 +6,7 @@ use Prim.Native.Nat.{ℕ}
 use mathlib.Core.Bool.{Bool, true, false}
 use mathlib.Core.List.{List, [], _∷_, _++_, append-nil}
 use Rattle.model.specs.Rows.{all, Row, Reply, refused, answered, choose, decide, verdict}
-use Rattle.model.specs.Exactly.{RefusalTable, line, otherwise, Gives}
+use Rattle.model.specs.Exactly.{Each, RefusalTable, line, otherwise, Gives}
 use Rattle.model.proofs.Tests.{Alls, Says, all-facts, all-true, not-facts}
 
 -- rows in front of others: their refusal, else what the others say
@@ -100,6 +100,19 @@ module _ {A : Type 0} where
       go : (b : Bool) → all (w .tests) ≡ b → {u : Reply A} → u ≡ choose b (answered a) (refused (w .number) (w .place)) → Decides w a u
       go true q e = inl (all-facts (w .tests) q, e)
       go false q e = inr (not-facts (w .tests) q, e)
+
+-- what holds of the answer, and of the refusal of each row that does not pass, holds of the reply
+pub decide-holds : {A : Type 0} (P : Reply A → Type 0) (ws : List Row) (a : A) → Each (λ w. Alls (w .tests) ⊎ P (refused (w .number) (w .place))) ws
+    → P (answered a) → P (decide ws a)
+unfolding decide
+decide-holds P [] a h k = k
+decide-holds P (w ∷ ws) a h k = go (all (w .tests)) refl (h .0) (decide-holds P ws a (h .1) k)
+  where
+    go : (b : Bool) → all (w .tests) ≡ b → Alls (w .tests) ⊎ P (refused (w .number) (w .place)) → P (decide ws a)
+        → P (choose b (decide ws a) (refused (w .number) (w .place)))
+    go true e h k = k
+    go false e (inl h) k = absurd (not-facts (w .tests) e h)
+    go false e (inr h) k = h
 
 -- ── rows as a table in words, f being how an answer is read ──
 

@@ -11,17 +11,17 @@ use borrow.Author.Tests.{eqb-true}
 use Rattle.program.specs.Prelude.{Space, Request, Grant}
 use Rattle.model.specs.Rows.{all, choose, Row, Reply, refused, answered, decide}
 use Rattle.model.specs.Rules.{spaceRow, formRows, requestRows}
-use Rattle.model.specs.Table.{Table, capacity, mappingsIn, badPlace, lengthRow, operationsRow, countRow, mappingsRow, contentRows, tableRows}
+use Rattle.model.specs.Table.{Table, capacity, mappingsIn, badPlace, lengthRow, operationsRow, countRow, mappingsRow, tableRows}
 use Rattle.model.specs.Calls.{requestOf, bytes, roomRow, bindRows, outcomeFor, countAfter, tableAfter, bind, lookup}
 use Rattle.model.specs.Exactly.{_∈_, Each}
 use Rattle.program.specs.Script.{recordAt, recordSize, State, Told, emptied, granted, shows, refusal, otherMark, cut, ended, toldBy, afterBind, requestIn, bindIn, stepOn, step, start}
 use Rattle.program.specs.Claims.{Reached, started, stepped, NeverBroken}
 use Rattle.program.specs.declared.ScriptRecord.{ScriptRecord}
 use Rattle.program.specs.declared.ScriptRecord.the-variants.{SetSpace, Bind, LookUp, OtherMark, Cut, End}
-use Rattle.model.proofs.Tests.{tests, Alls, not-facts}
+use Rattle.model.proofs.Tests.{tests, Alls}
 use Rattle.model.proofs.Actions.{each-append}
-use Rattle.model.proofs.Rows.{answered-passed, last-row}
-use Rattle.model.proofs.Groups.{table-passed}
+use Rattle.model.proofs.Rows.{answered-passed, decide-holds, last-row}
+use Rattle.model.proofs.Groups.{table-passed, each-table, each-form, each-request}
 use Rattle.model.proofs.Rules.{space-says}
 use Rattle.model.proofs.Exactly.{exactly}
 use Rattle.model.proofs.Demand2.{demand-2}
@@ -118,35 +118,13 @@ Allowed otherMark = Unit {0}
 Allowed cut = Unit {0}
 Allowed ended = Unit {0}
 
--- what holds of the answer, and of the refusal of each row that does not pass, holds of the reply
-decide-holds : {A : Type 0} (P : Reply A → Type 0) (ws : List Row) (a : A) → Each (λ w. Alls (w .tests) ⊎ P (refused (w .number) (w .place))) ws
-    → P (answered a) → P (decide ws a)
-unfolding decide
-decide-holds P [] a h k = k
-decide-holds P (w ∷ ws) a h k = go (all (w .tests)) refl (h .0) (decide-holds P ws a (h .1) k)
-  where
-    go : (b : Bool) → all (w .tests) ≡ b → Alls (w .tests) ⊎ P (refused (w .number) (w .place)) → P (decide ws a)
-        → P (choose b (decide ws a) (refused (w .number) (w .place)))
-    go true e h k = k
-    go false e (inl h) k = absurd (not-facts (w .tests) e h)
-    go false e (inr h) k = h
-
 -- a row passes, or its number may be told
 abbrev Tellable : Row → Type 0
 Tellable w = Alls (w .tests) ⊎ T (among (w .number) numbers)
 
 table-tellable : (st : State) (between : List Row) → Sound st → Each Tellable between → Each Tellable (tableRows (st .space) between (st .table))
-unfolding tableRows
 table-tellable st between h k =
-    (inr tt, (inl (h .length-right), each-append Tellable between (contentRows (st .space) (st .table)) k (inl (h .count), (inl (h .places), tt))))
-
-form-tellable : (r : Request) → Each Tellable (formRows r)
-unfolding formRows
-form-tellable r = (inr tt, (inr tt, tt))
-
-request-tellable : (s : Space) (r : Request) → Each Tellable (requestRows s r)
-unfolding requestRows
-request-tellable s r = (inr tt, (inr tt, (inr tt, (inr tt, (inr tt, tt)))))
+    each-table Tellable (st .space) between (st .table) (inr tt) (inl (h .length-right)) k (inl (h .count)) (inl (h .places))
 
 bind-allowed : (st : State) (bs : List ℕ) → Sound st → length bs ≡ 40
     → Allowed (toldBy granted (bind (st .space) (st .table) (st .operations) (bytes bs) .answer))
@@ -154,9 +132,9 @@ unfolding bind bindRows
 bind-allowed st bs h e = decide-holds (λ u. Allowed (toldBy granted (outcomeFor u r (st .table) (st .operations) .answer)))
     (bindRows (st .space) (st .table) (length (st .operations)) (bytes bs)) _ (
       inl (omega tests),
-      each-append Tellable (formRows r) _ (form-tellable r)
+      each-append Tellable (formRows r) _ (each-form Tellable r (inr tt) (inr tt))
           (each-append Tellable (tableRows (st .space) between (st .table)) _ (table-tellable st between h (inl (h .operations-fit), tt))
-          (each-append Tellable (requestRows (st .space) r) (roomRow (st .table) r ∷ []) (request-tellable (st .space) r) (inr tt, tt))),
+          (each-append Tellable (requestRows (st .space) r) (roomRow (st .table) r ∷ []) (each-request Tellable (st .space) r (inr tt) (inr tt) (inr tt) (inr tt) (inr tt)) (inr tt, tt))),
     ) tt
   where
     r : Request

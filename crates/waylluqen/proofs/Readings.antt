@@ -1,0 +1,126 @@
+-- No row has the number 0, so a refusal's words are told from a grant's, and each reply is read back from its words.
+-- Assumes nothing.
+use mathlib.Core.Path.{_≡_, refl, sym, ap, subst, _∙_}
+use mathlib.Core.Logic.{_↔_, inr}
+use mathlib.Core.List.{List, [], _∷_}
+use Prim.Native.Nat.{ℕ, _<_}
+use native.Mathlib.Omega.{arith}
+use lib.ListN.{length}
+use Rattle.model.specs.declared.Grant.{Grant}
+use Rattle.model.specs.declared.Request.{Request}
+use Rattle.model.specs.declared.Shown.{Shown}
+use Rattle.model.specs.declared.Shown.the-variants.{Nothing, Object}
+use Rattle.model.specs.declared.Space.{Space}
+use Rattle.model.specs.Rows.{Row, Reply, refused, answered, decide, verdict, numberOf}
+use Rattle.model.specs.Rules.{formRows, requestRows}
+use Rattle.model.specs.Table.{Table, mappings, operationsRow, tableRows}
+use Rattle.model.specs.Cut.{translate}
+use Rattle.model.specs.Calls.{Asking, numbers, bytes, asked, requestOf, recordRow, recordRows, roomRow, bindRows, grantOf, bind, lookup, checkRows, checkRequest}
+use Rattle.model.specs.Exactly.{Each}
+use Rattle.model.proofs.Actions.{each-append, each-map}
+use Rattle.model.proofs.Rows.{not-both, decide-holds}
+use Rattle.model.proofs.Groups.{each-table, each-form, each-request}
+use Rattle.model.proofs.Exactly.{answer-is}
+use Rattle.waylluqen.specs.declared.AnswerWords.{AnswerWords}
+use Rattle.waylluqen.specs.declared.Translation.{Translation}
+use Rattle.waylluqen.specs.Words.{translationOf, answerOf}
+use Rattle.waylluqen.specs.Readings.{BindGives, LookupGives, Readings}
+
+-- ── no row has the number 0 ──
+
+abbrev Numbered : Row → Type 0
+Numbered w = 0 < w .number
+
+abbrev Told : {A : Type 0} → Reply A → Type 0
+Told (refused n p) = 0 < n
+Told (answered a) = Unit {0}
+
+told : {A : Type 0} (ws : List Row) (a : A) → Each Numbered ws → Told (decide ws a)
+told ws a h = decide-holds Told ws a (each-map Numbered _ ws (λ w k. inr k) h) tt
+
+request-numbered : (s : Space) (r : Request) → Each Numbered (requestRows s r)
+request-numbered s r = each-request Numbered s r (omega arith) (omega arith) (omega arith) (omega arith) (omega arith)
+
+form-numbered : (r : Request) → Each Numbered (formRows r)
+form-numbered r = each-form Numbered r (omega arith) (omega arith)
+
+table-numbered : (s : Space) (between : List Row) (t : Table) → Each Numbered between → Each Numbered (tableRows s between t)
+table-numbered s between t k = each-table Numbered s between t (omega arith) (omega arith) k (omega arith) (omega arith)
+
+bind-numbered : (s : Space) (t : Table) (n : ℕ) (q : Asking) → Each Numbered (bindRows s t n q)
+unfolding bindRows
+bind-numbered s t n q = (
+  twelve q,
+  each-append Numbered (formRows (asked q)) _ (form-numbered (asked q))
+      (each-append Numbered (tableRows s (operationsRow n t ∷ []) t) _ (table-numbered s (operationsRow n t ∷ []) t (omega arith, tt))
+      (each-append Numbered (requestRows s (asked q)) (roomRow t (asked q) ∷ []) (request-numbered s (asked q)) (omega arith, tt))),
+)
+  where
+    twelve : (q : Asking) → Numbered (recordRow q)
+    twelve (numbers op address size object offset) = omega arith
+    twelve (bytes bs) = omega arith
+
+bind-told : (a : Reply Grant) → BindGives a → Told a
+unfolding bind
+bind-told a (s, t, os, q, e) =
+    let rows = bindRows s t (length os) q in
+    let grant = grantOf (asked q) (mappings t) in
+    subst Told (sym (answer-is (decide rows grant) (asked q) t os) ∙ e) (told rows grant (bind-numbered s t (length os) q))
+
+lookup-told : (a : Reply Shown) → LookupGives a → Told a
+unfolding lookup
+lookup-told a (s, t, x, e) = subst Told e (told (tableRows s [] t) (translate (mappings t) x) (table-numbered s [] t tt))
+
+check-told : (bs : List ℕ) (s : Space) → Told (verdict (checkRows bs s))
+unfolding checkRows recordRows
+check-told bs s = told (checkRows bs s) tt (
+  omega arith,
+  each-append Numbered (formRows (requestOf bs)) _ (form-numbered (requestOf bs))
+      (omega arith, request-numbered s (requestOf bs)),
+)
+
+-- ── replies by their words ──
+
+module _ (count : ℕ) where
+  abbrev grantIn : AnswerWords → Grant
+  grantIn w = record { operations = w .operations; count = w .count }
+
+  bind-pins : (a b : Reply Grant) → Told a → Told b → answerOf count a ≡ answerOf count b → a ≡ b
+  bind-pins (refused n p) (refused m q) h k e = λ i. refused (e i .refusal) (e i .place)
+  bind-pins (refused n p) (answered g) h k e = absurd (omega (arith, h, ap (λ (w : AnswerWords). w .refusal) e))
+  bind-pins (answered g) (refused n p) h k e = absurd (omega (arith, k, ap (λ (w : AnswerWords). w .refusal) e))
+  bind-pins (answered g) (answered f) h k e = λ i. answered (grantIn (e i))
+
+lookup-pins : (a b : Reply Shown) → Told a → Told b → translationOf a ≡ translationOf b → a ≡ b
+lookup-pins (refused n p) (refused m q) h k e = λ i. refused (e i .refusal) (e i .place)
+lookup-pins (refused n p) (answered Nothing) h k e = absurd (omega (arith, h, ap (λ (w : Translation). w .refusal) e))
+lookup-pins (refused n p) (answered (Object o f)) h k e = absurd (omega (arith, h, ap (λ (w : Translation). w .refusal) e))
+lookup-pins (answered Nothing) (refused n p) h k e = absurd (omega (arith, k, ap (λ (w : Translation). w .refusal) e))
+lookup-pins (answered (Object o f)) (refused n p) h k e = absurd (omega (arith, k, ap (λ (w : Translation). w .refusal) e))
+lookup-pins (answered Nothing) (answered Nothing) h k e = refl
+lookup-pins (answered Nothing) (answered (Object o f)) h k e = absurd (omega (arith, ap (λ (w : Translation). w .mapped) e))
+lookup-pins (answered (Object o f)) (answered Nothing) h k e = absurd (omega (arith, ap (λ (w : Translation). w .mapped) e))
+lookup-pins (answered (Object o f)) (answered (Object p g)) h k e = λ i. answered (Object (e i .object) (e i .offset))
+
+pub readings : Readings
+unfolding checkRequest
+readings = record {
+  bind-zero = λ count a g. bind-zero count a (bind-told a g);
+  lookup-zero = λ a g. lookup-zero a (lookup-told a g);
+  check-zero = λ bs s. check-zero (verdict (checkRows bs s)) (check-told bs s);
+  bind-pins = λ count a b g h. bind-pins count a b (bind-told a g) (bind-told b h);
+  lookup-pins = λ a b g h. lookup-pins a b (lookup-told a g) (lookup-told b h);
+}
+  where
+    bind-zero : (count : ℕ) (a : Reply Grant) → Told a → (answerOf count a .refusal ≡ 0) ↔ ((g : Grant) × (a ≡ answered g))
+    bind-zero count (refused n p) h = (λ z. absurd (omega (arith, h, z)), λ w. absurd (not-both (w .1)))
+    bind-zero count (answered g) h = (λ _. (g, refl), λ _. refl)
+
+    lookup-zero : (a : Reply Shown) → Told a → (translationOf a .refusal ≡ 0) ↔ ((v : Shown) × (a ≡ answered v))
+    lookup-zero (refused n p) h = (λ z. absurd (omega (arith, h, z)), λ w. absurd (not-both (w .1)))
+    lookup-zero (answered Nothing) h = (λ _. (Nothing, refl), λ _. refl)
+    lookup-zero (answered (Object o f)) h = (λ _. (Object o f, refl), λ _. refl)
+
+    check-zero : (u : Reply (Unit {0})) → Told u → (numberOf u ≡ 0) ↔ (u ≡ answered tt)
+    check-zero (refused n p) h = (λ z. absurd (omega (arith, h, z)), λ e. absurd (not-both e))
+    check-zero (answered v) h = (λ _. refl, λ _. refl)
