@@ -31,7 +31,7 @@ fn lookup_verdict(s: Space, table: &[u64], count: usize) -> Verdict
     if !rules::space_keeps_rules(s) {
         return Verdict::Refuse(Refusal::BadSpace);
     }
-    table::table_verdict(s, table, count)
+    inspect::table_verdict(s, table, count)
 }
 
 // What the byte address `x` shows in a table of `count` mappings, or the first of the refusals 1, 2, 4 and 5.
@@ -51,13 +51,13 @@ fn lent_verdict(s: Space, table: &[u64], count: usize, operation_words: usize) -
     if !rules::space_keeps_rules(s) {
         return Verdict::Refuse(Refusal::BadSpace);
     }
-    if !table::length_is_right(table) {
+    if !inspect::length_is_right(table) {
         return Verdict::Refuse(Refusal::BadTableLength);
     }
     if !cut::operations_fit(operation_words, table.len() / 4) {
         return Verdict::Refuse(Refusal::ShortOperations);
     }
-    table::contents_verdict(s, table, count)
+    inspect::contents_verdict(s, table, count)
 }
 
 // Rows 1 to 10.

@@ -1,31 +1,26 @@
 // The rules of a space, a mapping and a request, for any 64-bit numbers: each function is the model's tests, in their order. Sums are
-// compared exactly and none is made that could wrap, but in `join`, where a wrapped one shows at the end.
+// compared exactly, and none is made that could wrap.
 use model::Mapping;
 use model::Refusal;
 use model::Request;
 use model::Space;
 use model::Verdict;
 ghost use mathlib.Core.Path.{_≡_};
-ghost use mathlib.Core.Bool.{true};
-ghost use Prim.Native.Nat.{_+_, _≤_, min, max};
+ghost use Prim.Native.Nat.{_+_, min, max};
 ghost use lib.Dec.{leb};
 ghost use Rattle.model.specs.Rows.{all, verdict};
-ghost use Rattle.model.specs.Rules.{limit, aligned, apart, spaceTests, formRows, requestRows, alignmentRow, insideRow, objectRow, offsetRow};
+ghost use Rattle.model.specs.Rules.{aligned, apart, spaceTests, formRows, requestRows, alignmentRow, insideRow, objectRow, offsetRow};
 ghost use Rattle.model.specs.Table.{fitTests};
 ghost use Rattle.model.specs.Calls.{numbered, verdictReply};
-ghost use Rattle.rules.specs.Joined.{Clean, Fits};
 
 const PAGE: u64 = 4096;
 
 // Where a space, and an offset plus size, end at the latest.
-const LIMIT: u64 = 0x1_0000_0000_0000;
+pub const LIMIT: u64 = 0x1_0000_0000_0000;
 
-const LAST_OBJECT: u64 = 0xffff_ffff;
+pub const LAST_OBJECT: u64 = 0xffff_ffff;
 
-// A difference of two numbers up to 2^49 is at most this, and above it where it wraps.
-const MOST_DIFFERENCE: u64 = 0x7fff_ffff_ffff_ffff;
-
-fn is_aligned(x: u64) -> bool
+pub fn is_aligned(x: u64) -> bool
     ensures { λ t. ⌜ t ≡ aligned x ⌝ }
 {
     x % PAGE == 0
@@ -110,49 +105,6 @@ pub fn mapping_fits(s: Space, from: u64, m: Mapping) -> bool
         & (s.start <= m.address)
         & sum_at_most(m.address, m.size, s.start, s.size)
         & are_apart(m.address, m.size, s.reserved.start, s.reserved.size)
-}
-
-// The words of mappings joined bit by bit, and differences that their rules ask not to be below zero: one look at the end tells of all of
-// them, without a branch for each.
-pub struct Joined {
-    bits: u64,
-    objects: u64,
-    differences: u64,
-}
-
-pub fn none_joined() -> Joined
-    ensures { λ j. ⌜ Clean j ⌝ }
-{
-    Joined {
-        bits: 0,
-        objects: 0,
-        differences: 0,
-    }
-}
-
-// One mapping more, which is to start at `from` or behind. A difference below zero wraps to a very large number.
-pub fn join(j: Joined, from: u64, m: Mapping) -> Joined
-    ensures { λ k. ⌜ (Clean k → Clean j × (from ≤ limit + limit → Fits from m)) ⌝ }
-{
-    Joined {
-        bits: j.bits | m.address | m.size | m.offset,
-        objects: j.objects | m.object,
-        differences: j.differences
-            | std::num::wrapping_sub_u64(m.size, 1)
-            | std::num::wrapping_sub_u64(m.object, 1)
-            | std::num::wrapping_sub_u64(m.address, from)
-            | std::num::wrapping_sub_u64(LIMIT, std::num::wrapping_add_u64(m.offset, m.size)),
-    }
-}
-
-// The mappings that were joined keep their rules if this says so. If it does not, nothing is known of a single one.
-pub fn all_keep_rules(j: Joined) -> bool
-    ensures { λ b. ⌜ (b ≡ true → Clean j) ⌝ }
-{
-    is_aligned(j.bits)
-        & (j.bits <= LIMIT)
-        & (j.objects <= LAST_OBJECT)
-        & (j.differences <= MOST_DIFFERENCE)
 }
 
 fn range_is_aligned(r: Request) -> bool

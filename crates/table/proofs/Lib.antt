@@ -1,9 +1,6 @@
 pub mod Between
 pub mod First
 pub mod Places
-pub mod Quick
 pub mod Search
-pub mod Spared
 pub mod Spliced
-pub mod Verdicts
 pub mod Words

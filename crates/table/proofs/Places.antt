@@ -48,28 +48,6 @@ from-place ws n i m h e =
 pub from-end : (ws : List ℕ) (n i : ℕ) → i ≡ n → drop i (mappingsIn n ws) ≡ []
 from-end ws n i e = ap (λ (k : ℕ). drop k (mappingsIn n ws)) (e ∙ sym (length-mappings n ws)) ∙ drop-length (mappingsIn n ws)
 
--- ── the check's loop: what it is to answer is i and the bad place from i on, where the mapping at i has to start at or after `from` ──
-
-pub record BadFrom (s : Space) (ws : List ℕ) (n answer i from : ℕ) : Type 0 where
-  pub is : answer ≡ i + badPlace s from (drop i (mappingsIn n ws))
-
-module _ {s : Space} {ws : List ℕ} {n answer i from : ℕ} where
-  module _ {m : Mapping} (h : i < n) (e : m ≡ mappingAt ws i) (g : BadFrom s ws n answer i from) where
-    here : badPlace s from (drop i (mappingsIn n ws))
-        ≡ choose (all (fitTests s from m)) (suc (badPlace s (end m) (drop (i + 1) (mappingsIn n ws)))) 0
-    unfolding badPlace
-    here = ap (badPlace s from) (from-place ws n i m h e)
-
-    pub bad-next : all (fitTests s from m) ≡ true → BadFrom s ws n answer (i + 1) (end m)
-    bad-next t = record { is = omega (arith, g .is, rw (t, choose) at here) }
-
-    pub bad-here : all (fitTests s from m) ≡ false → i ≡ answer
-    bad-here t = omega (arith, g .is, rw (t, choose) at here)
-
-  pub bad-end : i ≡ n → BadFrom s ws n answer i from → i ≡ answer
-  unfolding badPlace
-  bad-end e g = omega (arith, g .is, ap (badPlace s from) (from-end ws n i e))
-
 -- ── a table that passed its check ──
 
 chain-at : (s : Space) (from to : ℕ) (ms : List Mapping) (i : ℕ) (d : Mapping) → Chain s from to ms → i < length ms

@@ -16,10 +16,6 @@ use Rattle.model.specs.Table.{Table, mappingsIn, badPlace, lengthRow, contentRo
 abbrev pub lent : List ℕ → ℕ → Table
 lent ws count = record { words = ws; count = count }
 
--- the rows that look at a table alone: 2, 4, 5
-abbrev pub ownRows : Space → Table → List Row
-ownRows s t = lengthRow t ∷ contentRows s t
-
 -- the mapping at place i
 unfoldable pub mappingAt : List ℕ → ℕ → Mapping
 mappingAt ws i = record { address = getD ws (4 * i) 0; size = getD ws (4 * i + 1) 0; object = getD ws (4 * i + 2) 0; offset = getD ws (4 * i + 3) 0 }

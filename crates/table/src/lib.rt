@@ -1,26 +1,16 @@
-// A table of mappings in lent words, four words each: read, checked, searched, and spliced in place.
+// A table of mappings in lent words, four words each: read, searched, and spliced in place.
 use model::Mapping;
-use model::Refusal;
 use model::Shown;
-use model::Space;
-use model::Verdict;
 ghost use mathlib.Core.Path.{_≡_};
-ghost use mathlib.Core.Bool.{true};
 ghost use mathlib.Core.List.{[], _∷_, _++_, flatMap};
 ghost use Prim.Native.Nat.{_+_, _*_, _≤_};
 ghost use lib.ListN.{length, drop};
-ghost use Rattle.model.specs.Rows.{all, verdict};
-ghost use Rattle.model.specs.Rules.{limit, spaceTests};
-ghost use Rattle.model.specs.Table.{mappingsIn, wordsOf, written, badPlace, lengthRow, contentRows};
+ghost use Rattle.model.specs.Rules.{limit};
+ghost use Rattle.model.specs.Table.{mappingsIn, wordsOf, written};
 ghost use Rattle.model.specs.Cut.{prepend, translate};
-ghost use Rattle.model.specs.Calls.{verdictReply};
-ghost use Rattle.rules.specs.Part.{upTo};
 ghost use Rattle.words.specs.Words.{stored};
-ghost use Rattle.table.specs.Places.{lent, ownRows, mappingAt, firstWhere, startsBehind, endsBehind, Valid};
+ghost use Rattle.table.specs.Places.{mappingAt, firstWhere, startsBehind, endsBehind, Valid};
 ghost use Rattle.table.specs.Splice.{mappingsOf, spliced, Splice};
-
-// Document 01: a table has room for 1 to so many mappings.
-const MOST_MAPPINGS: usize = 512;
 
 // Up to three mappings that take the place of others.
 pub enum Replacement {
@@ -51,104 +41,6 @@ fn write_mapping(t: &mut [u64], i: usize, m: Mapping)
 {
     let words = [m.address, m.size, m.object, m.offset];
     words::store(t, 4 * i, &words)
-}
-
-// The lowest place of a mapping that breaks its rules or overlaps or precedes its forerunner; `count` where none does.
-fn first_bad(s: Space, t: &[u64], count: usize) -> usize
-    requires { ⌜ (all (spaceTests s) ≡ true) × (4 * count ≤ length (now t)) ⌝ }
-    ensures { λ i. ⌜ i ≡ badPlace s 0 (mappingsIn count (now (t .entry))) ⌝ }
-{
-    let mut place: usize = 0;
-    let mut end: u64 = 0;
-    while place < count {
-        let m = read_mapping(t, place);
-        if !rules::mapping_fits(s, end, m) {
-            return place;
-        }
-        end = m.address + m.size;
-        place += 1;
-    }
-    place
-}
-
-// All mappings keep their rules between `from` and `stop`, where nothing is reserved, if this says so: one look at their joined words.
-fn all_fit(t: &[u64], count: usize, from: u64, stop: u64) -> bool
-    requires { ⌜ (4 * count ≤ length (now t)) × (from ≤ limit) ⌝ }
-    ensures { λ b. ⌜ (b ≡ true → badPlace (upTo stop) from (mappingsIn count (now (t .entry))) ≡ count) ⌝ }
-{
-    let mut i: usize = 0;
-    let mut end = from;
-    let mut seen = rules::none_joined();
-    while i < count {
-        let m = read_mapping(t, i);
-        seen = rules::join(seen, end, m);
-        end = std::num::wrapping_add_u64(m.address, m.size);
-        i += 1;
-    }
-    rules::all_keep_rules(seen) & (end <= stop)
-}
-
-// No mapping of an ascending table shares a byte with the reservation if this says so: the first that ends behind its start starts at its
-// end or behind, and so do those behind it. The reservation then makes no difference to the check.
-fn spares_reservation(s: Space, t: &[u64], count: usize) -> bool
-    requires { ⌜ (all (spaceTests s) ≡ true) × Valid (now t) count ⌝ }
-    ensures { λ b. ⌜ (b ≡ true → badPlace s 0 (mappingsIn count (now (t .entry))) ≡ badPlace (upTo (s .start + s .size)) (s .start) (mappingsIn count (now (t .entry)))) ⌝ }
-{
-    let start = s.reserved.start;
-    let end = start + s.reserved.size;
-    let first = first_ending_behind(t, count, start);
-    if first == count {
-        return true;
-    }
-    let m = read_mapping(t, first);
-    end <= m.address
-}
-
-// What `first_bad` answers. A quick pass tells a table that is in order; only any other is gone through mapping by mapping.
-fn bad_place(s: Space, t: &[u64], count: usize) -> usize
-    requires { ⌜ (all (spaceTests s) ≡ true) × (4 * count ≤ length (now t)) ⌝ }
-    ensures { λ i. ⌜ i ≡ badPlace s 0 (mappingsIn count (now (t .entry))) ⌝ }
-{
-    if all_fit(t, count, s.start, s.start + s.size) {
-        if spares_reservation(s, t, count) {
-            return count;
-        }
-    }
-    first_bad(s, t, count)
-}
-
-// Row 2. The count plays no part.
-pub fn length_is_right(t: &[u64]) -> bool
-    ensures { λ b. ⌜ b ≡ all (lengthRow (lent (now (t .entry)) 0) .tests) ⌝ }
-{
-    let n = t.len();
-    (0 < n) & (n % 4 == 0) & (n <= 4 * MOST_MAPPINGS)
-}
-
-// Rows 4 and 5.
-pub fn contents_verdict(s: Space, t: &[u64], count: usize) -> Verdict
-    requires { ⌜ all (spaceTests s) ≡ true ⌝ }
-    ensures { λ v. ⌜ verdictReply v ≡ verdict (contentRows s (lent (now (t .entry)) count)) ⌝ }
-{
-    if t.len() / 4 < count {
-        return Verdict::Refuse(Refusal::BadCount);
-    }
-    let bad = bad_place(s, t, count);
-    if bad != count {
-        return Verdict::Refuse(Refusal::BadMapping(bad));
-    }
-    Verdict::Pass
-}
-
-// The check of a table: rows 2, 4 and 5.
-pub fn table_verdict(s: Space, t: &[u64], count: usize) -> Verdict
-    requires { ⌜ all (spaceTests s) ≡ true ⌝ }
-    ensures { λ v. ⌜ verdictReply v ≡ verdict (ownRows s (lent (now (t .entry)) count)) ⌝ }
-{
-    if !length_is_right(t) {
-        return Verdict::Refuse(Refusal::BadTableLength);
-    }
-    contents_verdict(s, t, count)
 }
 
 // The place of the first mapping from place `from` on that starts behind the byte address `x`; `count` where none does.
