@@ -1,4 +1,5 @@
--- A map or unmap by what its rows say: a refusal changes nothing, and rows that pass leave the answer to those behind them.
+-- A map or unmap by what its rows say: a refusal changes nothing, and rows that pass leave the answer to those behind
+-- them.
 -- Assumes nothing.
 use mathlib.Core.Path.{_≡_, refl, sym, ap, _∙_}
 use mathlib.Core.List.{List, [], _∷_, _++_, append-assoc}

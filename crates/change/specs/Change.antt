@@ -12,14 +12,16 @@ use Rattle.model.specs.Cut.{after, operations}
 use Rattle.model.specs.Calls.{Outcome, outcomeFor, grantOf, roomRow}
 use Rattle.table.specs.Places.{firstWhere, startsBehind, endsBehind, Valid}
 
--- a request in order on a table that passed its check; and where the table has room, n words have room for the operations
+-- a request in order on a table that passed its check; and where the table has room, n words have room for the
+-- operations
 pub record Ready (r : Request) (t : Table) (n : ℕ) : Type 0 where
   pub table : Valid (t .words) (t .count)
   pub not-empty : 0 < r .size
   pub stop-most : stop r ≤ limit
   pub room : length (after r (mappings t)) ≤ capacity t → 14 * length (operations r (mappings t)) ≤ n
 
--- the mappings hit are those from place lo up to hi: lo is the first that ends behind the range's first byte, and hi the first
+-- the mappings hit are those from place lo up to hi: lo is the first that ends behind the range's first byte, and hi
+-- the first
 -- from there on that starts behind its last
 pub record Placed (r : Request) (ws : List ℕ) (lo hi : ℕ) : Type 0 where
   pub count : ℕ

@@ -6,7 +6,8 @@ use lib.ListN.{length, getD}
 use lib.Dec.{eqb}
 use Rattle.model.specs.Rows.{choose}
 
--- the word of a mapping's field: 0 the address, 1 the size, from the first page and the one behind the last, 2 the object, 3 the offset
+-- the word of a mapping's field: 0 the address, 1 the size, from the first page and the one behind the last, 2 the
+-- object, 3 the offset
 abbrev pub wordOf : ℕ → ℕ → ℕ → ℕ
 wordOf field start n = choose (eqb field 2) n (choose (eqb field 1) ((n - start) * 4096) (n * 4096))
 

@@ -1,4 +1,5 @@
--- The exact pass, mapping by mapping: what it is to answer is i and the bad place from i on, where the mapping at i has to start at `from` or behind.
+-- The exact pass, mapping by mapping: what it is to answer is i and the bad place from i on, where the mapping at i has
+-- to start at `from` or behind.
 -- Assumes nothing.
 use mathlib.Core.Path.{_≡_, ap}
 use mathlib.Core.Bool.{true, false}

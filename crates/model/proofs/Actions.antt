@@ -1,4 +1,5 @@
--- Actions that commute and are idempotent: a list of them does what any other list of the same ones does, in whatever order and however often.
+-- Actions that commute and are idempotent: a list of them does what any other list of the same ones does, in whatever
+-- order and however often.
 -- Assumes nothing.
 use mathlib.Core.Path.{_≡_, refl, sym, ap, subst, _∙_}
 use mathlib.Core.List.{List, [], _∷_, _++_, List·Memᴰ·head, List·Memᴰ·tail}

@@ -1,4 +1,5 @@
--- Tables that keep their rules: a chain of mappings that fit, from one address to another. A granted request leaves a chain.
+-- Tables that keep their rules: a chain of mappings that fit, from one address to another. A granted request leaves a
+-- chain.
 -- Assumes nothing.
 use mathlib.Core.Path.{_≡_, sym, subst, _∙_}
 use mathlib.Core.Logic.{_⊎_, inl, inr}

@@ -1,4 +1,5 @@
--- A series for which the premises of demand 3 hold, computed call by call: a refusal, another order, a piece twice, both kinds of call.
+-- A series for which the premises of demand 3 hold, computed call by call: a refusal, another order, a piece twice,
+-- both kinds of call.
 -- Assumes nothing.
 use mathlib.Core.Path.{_≡_, refl}
 use mathlib.Core.Logic.{inl, inr}

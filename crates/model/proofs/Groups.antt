@@ -1,4 +1,5 @@
--- The named groups of rows: what a group that passes says, fact by fact, and that a group says what its lines in words say.
+-- The named groups of rows: what a group that passes says, fact by fact, and that a group says what its lines in words
+-- say.
 -- Assumes nothing.
 use mathlib.Core.Path.{_≡_, refl, sym, subst}
 use mathlib.Core.List.{List, [], _∷_, _++_, append-assoc}

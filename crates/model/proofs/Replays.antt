@@ -1,4 +1,5 @@
--- The operations that a grant writes: they replay to the table left, are the ones that document 01 lists, and are as many as it answers.
+-- The operations that a grant writes: they replay to the table left, are the ones that document 01 lists, and are as
+-- many as it answers.
 -- Assumes nothing.
 use mathlib.Core.Path.{_≡_, refl, sym, ap, subst, _∙_}
 use mathlib.Core.List.{List, [], _++_, map, flatMap, append-nil}

@@ -9,7 +9,7 @@ use borrow.Author.Tests.{leb-true, leb-false}
 use Rattle.model.specs.Prelude.{Space, Mapping, Request}
 use Rattle.model.specs.Rules.{reservedTests, spaceTests, mappingTests, objectTests, offsetTests}
 use Rattle.model.specs.Exactly.{ShareByte, Inside, SpaceRules, MappingRules}
-use Rattle.model.proofs.Tests.{tests, Says}
+use Rattle.model.proofs.Tests.{tests, Alls, Says}
 
 -- ── ranges that share no byte ──
 
@@ -41,19 +41,22 @@ reserved-says s = go (s .reserved .size) refl
 
 pub space-says : (s : Space) → Says (spaceTests s) (SpaceRules s)
 space-says s = (
-  λ h.
-      let r = reserved-says s .0 (h .1 .1 .1 .1 .1 .1) in
-      record {
-        multiples = (omega tests, omega tests, omega tests, omega tests);
-        size-least = omega tests;
-        end-most = omega tests;
-        no-reservation = r .0;
-        reservation = r .1;
-      },
+  says,
   λ r.
       let t = reserved-says s .1 (r .no-reservation, r .reservation) in
       (omega tests, (omega tests, (omega tests, (omega tests, (omega tests, (omega tests, t)))))),
 )
+  where
+    says : Alls (spaceTests s) → SpaceRules s
+    says (a, (b, (c, (d, (e, (f, reserved)))))) =
+        let r = reserved-says s .0 reserved in
+        record {
+          multiples = (omega tests, omega tests, omega tests, omega tests);
+          size-least = omega tests;
+          end-most = omega tests;
+          no-reservation = r .0;
+          reservation = r .1;
+        }
 
 -- ── a mapping ──
 

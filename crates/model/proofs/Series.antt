@@ -1,4 +1,5 @@
--- A series of calls, granted and refused as they come: the granted ones act one after another, the others leave the state, and if the uncut
+-- A series of calls, granted and refused as they come: the granted ones act one after another, the others leave the
+-- state, and if the uncut
 -- request is granted only room is ever wanting. For any service that shows its laws.
 -- Assumes nothing.
 use mathlib.Core.Path.{_≡_, sym, ap, subst, _∙_}
@@ -83,7 +84,8 @@ module _ {S C A : Type 0} (act : Request → List Mapping → List Mapping) (v :
               every = λ p. elim [ inl h ↦ absurd (n .0 (h .1)) | inr m ↦ k .every p m ];
             }
 
-    -- every piece granted at least once: the requests granted are the pieces, in some order and some of them more than once
+    -- every piece granted at least once: the requests granted are the pieces, in some order and some of them more than
+    -- once
     pub record All (ps : List Request) (s : S) (cs : List C) : Type 0 where
       pub gs : List Request
       pub only : gs ⊆ ps

@@ -1,5 +1,7 @@
--- Any service of requests: what demand 3 says of it, and what it must show for that. A service that is added later (a batch of requests in a
--- call, a pool of clients, a table of joined mappings) gives a Service of its own, and shows StateLaws and CallLaws; ByRows is a short way to CallLaws.
+-- Any service of requests: what demand 3 says of it, and what it must show for that. A service that is added later (a
+-- batch of requests in a
+-- call, a pool of clients, a table of joined mappings) gives a Service of its own, and shows StateLaws and CallLaws;
+-- ByRows is a short way to CallLaws.
 -- Assumes nothing.
 use mathlib.Core.Path.{_≡_}
 use mathlib.Core.Logic.{_⊎_}
@@ -91,8 +93,10 @@ pub record StateLaws {S : Type 0} (w : View S) (Holds : S → List Mapping → S
   pub room-back : (s x : S) (t : List Mapping) (n : ℕ) → Holds s t x → w .Room x n → w .Room s n
   pub room-less : (s : S) (m n : ℕ) → m ≤ n → w .Room s n → w .Room s m
 
--- `act` is what a granted request makes of a table. For `after`, the cut, General has the claim; for another, as where mappings are joined,
--- Series still tells what a series of calls comes to, and what is left to show is what the acts of the pieces make of a table
+-- `act` is what a granted request makes of a table. For `after`, the cut, General has the claim; for another, as where
+-- mappings are joined,
+-- Series still tells what a series of calls comes to, and what is left to show is what the acts of the pieces make of a
+-- table
 module _ {S C A : Type 0} (act : Request → List Mapping → List Mapping) (v : Service S C A) (w : View S) (space : Space) where
   -- the table that a grant leaves
   abbrev pub served : S → C → List Mapping
@@ -110,7 +114,8 @@ module _ {S C A : Type 0} (act : Request → List Mapping → List Mapping) (v :
     pub grant : (s : S) (c : C) → v .Proper c → v .Granted (v .answer s c) → GrantLaws s c
     -- a refusal leaves the state
     pub refusal : (s : S) (c : C) → v .Proper c → v .Granted (v .answer s c) ⊎ ((v .Granted (v .answer s c) → ⊥) × (v .next s c ≡ s))
-    -- on a good state, a call for what may be asked wants room at most; one for the uncut request, where there is room, nothing
+    -- on a good state, a call for what may be asked wants room at most; one for the uncut request, where there is room,
+    -- nothing
     pub serves : (s : S) (c : C) → v .Proper c → w .Good s → Each (Asked space) (v .asks c)
         → v .Granted (v .answer s c) ⊎ v .Wants c (v .answer s c)
     pub single : (s : S) (c : C) (r : Request) → ForWhole v r c → w .Good s → Asked space r → w .Room s (length (act r (w .table s)))

@@ -1,4 +1,5 @@
--- A table's rules: kept in words, kept by the tests, and a chain are the same; the place that number 5 answers is the lowest bad one.
+-- A table's rules: kept in words, kept by the tests, and a chain are the same; the place that number 5 answers is the
+-- lowest bad one.
 -- Assumes nothing.
 use mathlib.Core.Path.{_≡_, refl, sym, ap, subst, _∙_}
 use mathlib.Core.Logic.{_⊎_, inl, inr}

@@ -88,7 +88,8 @@ pub record Outcome : Type 0 where
   pub table : List ℕ
   pub operations : List ℕ
 
--- a refusal changes nothing; a grant writes the table, zeros behind it, and the operations, words behind the last being as they were
+-- a refusal changes nothing; a grant writes the table, zeros behind it, and the operations, words behind the last being
+-- as they were
 abbrev pub outcomeFor : Reply Grant → Request → Table → List ℕ → Outcome
 outcomeFor (refused n p) r t os = record { answer = refused n p; table = t .words; operations = os }
 outcomeFor (answered g) r t os = record {
@@ -125,7 +126,8 @@ checkRows bs s = recordRows bs ++ spaceRow s ∷ requestRows s (requestOf bs)
 unfoldable pub checkRequest : List ℕ → Space → ℕ
 checkRequest bs s = numberOf (verdict (checkRows bs s))
 
--- the answer enums of src/lib.rt, each case in document 01's numbers and values. A refusal's number and place: 5 has its mapping's, the others 0
+-- the answer enums of src/lib.rt, each case in document 01's numbers and values. A refusal's number and place: 5 has
+-- its mapping's, the others 0
 abbrev pub numbered : Refusal → ℕ × ℕ
 numbered BadSpace = (1, 0)
 numbered BadTableLength = (2, 0)

@@ -1,4 +1,5 @@
--- How a request cuts the old mappings (document 01), what it hands the driver for them, and what a byte address shows: of any list of mappings.
+-- How a request cuts the old mappings (document 01), what it hands the driver for them, and what a byte address shows:
+-- of any list of mappings.
 use Rattle.model.specs.Prelude.{Bool, List, [], _∷_, _++_, map, ℕ, zero, suc, _+_, _-_, min, max, leb, ltb, eqb, Mapping, Request, Rests, Lower, Upper, Both, Operation, Map, Remap, Unmap, Shown, Nothing, Object}
 use Rattle.model.specs.Rows.{all, choose}
 use Rattle.model.specs.Rules.{end, stop, apart}

@@ -13,7 +13,8 @@ abbrev pub piece : Request → ℕ → ℕ → Request
 piece r x y =
     record { op = r .op; flags = r .flags; object = r .object; pad = r .pad; address = x; offset = pieceOffset (r .op) r x; size = y - x }
 
--- ps are pieces of r, in any order; a request of size 0 has none. Numbers are not bounded: a piece with one that 64 bits can't hold is covered, no code can ask it
+-- ps are pieces of r, in any order; a request of size 0 has none. Numbers are not bounded: a piece with one that 64
+-- bits can't hold is covered, no code can ask it
 pub record Pieces (r : Request) (ps : List Request) : Type 0 where
   pub one-or-more : 0 < length ps
   pub not-empty : (p : Request) → p ∈ ps → 0 < p .size

@@ -3,7 +3,8 @@ use Rattle.model.specs.Prelude.{_≡_, List, [], _∷_, _++_, ℕ, _+_, 
 use Rattle.model.specs.Calls.{Reply, answered, Asking, numbers, bind, spaceOf}
 use Rattle.model.specs.Exactly.{Each, refusal}
 
--- the old mappings, the request, the operations and the new mappings; or the table's room, the old mappings, the request and a refusal's number
+-- the old mappings, the request, the operations and the new mappings; or the table's room, the old mappings, the
+-- request and a refusal's number
 pub data Drawing : Type 0 where
   granted : List (List ℕ) → Asking → List (List ℕ) → List (List ℕ) → Drawing
   refusing : ℕ → List (List ℕ) → Asking → ℕ → Drawing

@@ -1,4 +1,5 @@
--- Document 01's rules in words; its numbers are written out, but for the 512 mappings. A call gives a line's answer exactly if its rule is broken and no line's above it.
+-- Document 01's rules in words; its numbers are written out, but for the 512 mappings. A call gives a line's answer
+-- exactly if its rule is broken and no line's above it.
 use Rattle.model.specs.Prelude.{_≡_, _⊎_, _↔_, List, [], _∷_, flatMap, List·Memᴰ, ℕ, suc, _+_, _*_, _/_, _%_, _^_, _≤_, _<_, length, take, Space, Mapping, Request, Shown, Grant}
 use Rattle.model.specs.Calls.{Reply, refused, answered, mostMappings, end, stop, requestOf, recordOf, Table, mappings, badPlace, operations, old, rests, translate, Asking, numbers, bytes, asked, grantOf, bind, lookup, checkRequest, verdictReply, decodedReply, answerReply, foundReply}
 
@@ -134,7 +135,8 @@ pub record Exactly : Type 0 where
       → (bind s t os q .table ≡ t .words) × (bind s t os q .operations ≡ os)
   pub lookup-only : (s : Space) (t : Table) (x n p : ℕ) → lookup s t x ≡ refused n p → n ∈ (1 ∷ 2 ∷ 4 ∷ 5 ∷ [])
 
--- what comes is what was asked: a request whose numbers fit a record's fields as 40 bytes; one whose flags and pad are 0 by numbers
+-- what comes is what was asked: a request whose numbers fit a record's fields as 40 bytes; one whose flags and pad are
+-- 0 by numbers
 abbrev pub ReadsBack : Type 0
 ReadsBack = (r : Request) → (Each (λ x. x < 2 ^ 32) (r .op ∷ r .flags ∷ r .object ∷ r .pad ∷ [])
     → Each (λ x. x < 2 ^ 64) (r .address ∷ r .offset ∷ r .size ∷ []) → (length (recordOf r) ≡ 40) × (asked (bytes (recordOf r)) ≡ r))

@@ -4,7 +4,8 @@ use Rattle.model.specs.Calls.{all, choose, answered, end, stop, Table, m
 use Rattle.model.specs.Layout.{operationIn}
 use Rattle.model.specs.Exactly.{Each, _∈_, ShareByte, Ascends, TableRules}
 
--- u is what the granted request r leaves of t: what byte addresses show; a valid table, zeros behind it; look-ups in it are answered
+-- u is what the granted request r leaves of t: what byte addresses show; a valid table, zeros behind it; look-ups in it
+-- are answered
 pub record Effect (s : Space) (r : Request) (t u : Table) : Type 0 where
   pub maps : r .op ≡ 0 → (x : ℕ) → r .address ≤ x → x < stop r → translate (mappings u) x ≡ Object (r .object) (r .offset + (x - r .address))
   pub unmaps : r .op ≡ 1 → (x : ℕ) → r .address ≤ x → x < stop r → translate (mappings u) x ≡ Nothing
@@ -17,7 +18,8 @@ abbrev pub Demand2 : Type 0
 Demand2 = (s : Space) (t : Table) (os : List ℕ) (q : Asking) (g : Grant) → bind s t os q .answer ≡ answered g
     → Effect s (asked q) t (tableAfter t (bind s t os q))
 
--- document 01, Look-up: a byte address inside a mapping shows its object at offset + (byte address - mapping address), any other nothing
+-- document 01, Look-up: a byte address inside a mapping shows its object at offset + (byte address - mapping address),
+-- any other nothing
 abbrev pub Lookup : Type 0
 Lookup = (s : Space) (ms : List Mapping) (x : ℕ) → TableRules s ms
     → ((m : Mapping) → m ∈ ms → m .address ≤ x → x < end m → translate ms x ≡ Object (m .object) (m .offset + (x - m .address)))
@@ -86,14 +88,16 @@ abbrev pub Replay : Type 0
 Replay = (s : Space) (t : Table) (os : List ℕ) (q : Asking) (g : Grant) → bind s t os q .answer ≡ answered g
     → Replays (asked q) t (tableAfter t (bind s t os q)) (operations (asked q) (mappings t)) os (bind s t os q .operations) g
 
--- an operation's keep word is 1 exactly if the request is a map and the old mapping has the request's address, object and offset; else 0
+-- an operation's keep word is 1 exactly if the request is a map and the old mapping has the request's address, object
+-- and offset; else 0
 abbrev pub Marked : Request → Operation → ℕ → Type 0
 Marked r o word = (word ≤ 1) × ((word ≡ 1) ↔ ((m : Mapping) × m ∈ old o × (r .op ≡ 0) × (m .address ≡ r .address) × (m .object ≡ r .object) × (m .offset ≡ r .offset)))
 
 abbrev pub Keep : Type 0
 Keep = (r : Request) (ms : List Mapping) → Each (λ o. Marked r o (getD (operationWords o) 1 0)) (operations r ms)
 
--- document 01: an operation is 14 words: kind, keep, the old mapping (a map's new one), the lower rest, the upper rest; an absent rest is four zeros
+-- document 01: an operation is 14 words: kind, keep, the old mapping (a map's new one), the lower rest, the upper rest;
+-- an absent rest is four zeros
 abbrev pub laid : ℕ → ℕ → Mapping → List ℕ → List ℕ → List ℕ
 laid kind keep m lower upper = kind ∷ keep ∷ m .address ∷ m .size ∷ m .object ∷ m .offset ∷ (lower ++ upper)
 
@@ -114,13 +118,15 @@ OperationLayout = (o : Operation) → Laid o (operationWords o)
 abbrev pub SameWords : List ℕ → List ℕ → Type 0
 SameWords ws vs = Each (λ i. getD ws i 0 ≡ getD vs i 0) (0 ∷ 2 ∷ 3 ∷ 4 ∷ 5 ∷ 6 ∷ 7 ∷ 8 ∷ 9 ∷ 10 ∷ 11 ∷ 12 ∷ 13 ∷ [])
 
--- words say o: they are its own, but that any other keep word than 1 reads as 0 (a map's is not read), and its rests are there
+-- words say o: they are its own, but that any other keep word than 1 reads as 0 (a map's is not read), and its rests
+-- are there
 pub record Says (ws : List ℕ) (o : Operation) : Type 0 where
   pub words : SameWords ws (operationWords o)
   pub keep : (m : Mapping) → m ∈ old o → (getD ws 1 0 ≡ 1) ↔ (getD (operationWords o) 1 0 ≡ 1)
   pub there : Each (λ m. restLaid m ≡ 0 ∷ 0 ∷ 0 ∷ 0 ∷ [] → ⊥) (rests o)
 
--- an operation is read from words exactly if they say it; so a request's own operations are read back as they were written
+-- an operation is read from words exactly if they say it; so a request's own operations are read back as they were
+-- written
 pub record OperationReading : Type 0 where
   pub exactly : (ws : List ℕ) (o : Operation) → (operationIn ws ≡ some o) ↔ Says ws o
   pub own : (r : Request) (ms : List Mapping) → Each (λ o. operationIn (operationWords o) ≡ some o) (operations r ms)

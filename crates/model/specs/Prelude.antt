@@ -1,4 +1,5 @@
--- The words that every definition uses: the library's (leb, ltb, eqb test ≤, <, =; getD xs i d is the i-th of xs, or d) and types of src/lib.rt.
+-- The words that every definition uses: the library's (leb, ltb, eqb test ≤, <, =; getD xs i d is the i-th of xs, or d)
+-- and types of src/lib.rt.
 pub use mathlib.Core.Path.{_≡_}
 pub use mathlib.Core.Logic.{_⊎_, _↔_}
 pub use mathlib.Core.Bool.{Bool, true, false, _&&_}

@@ -1,4 +1,5 @@
--- The rules of a space, a mapping and a request as tests, and lines of document 01's refusal table as named rows. Sums are exact, in ℕ.
+-- The rules of a space, a mapping and a request as tests, and lines of document 01's refusal table as named rows. Sums
+-- are exact, in ℕ.
 use Rattle.model.specs.Prelude.{Bool, List, [], _∷_, _++_, ℕ, zero, suc, _+_, _-_, _%_, _^_, min, max, leb, ltb, eqb, Space, Mapping, Request}
 use Rattle.model.specs.Rows.{Row, row}
 
@@ -60,7 +61,8 @@ mappingTests s m =
 abbrev pub byNumbers : ℕ → ℕ → ℕ → ℕ → ℕ → Request
 byNumbers op address size object offset = record { op = op; flags = 0; object = object; pad = 0; address = address; offset = offset; size = size }
 
--- op 0 maps, op 1 unmaps; 13 keeps any other away. A map's object is from 1 to the last; an unmap has no object and no offset
+-- op 0 maps, op 1 unmaps; 13 keeps any other away. A map's object is from 1 to the last; an unmap has no object and no
+-- offset
 abbrev pub objectTests : ℕ → Request → List Bool
 objectTests zero r = leb 1 (r .object) ∷ leb (r .object) lastObject ∷ []
 objectTests (suc n) r = eqb (r .object) 0 ∷ eqb (r .offset) 0 ∷ []

@@ -1,4 +1,5 @@
--- A number in decimal: one digit, or those of n / 10 and a last one; read back, digits alone, no zero in front, and how many at most.
+-- A number in decimal: one digit, or those of n / 10 and a last one; read back, digits alone, no zero in front, and how
+-- many at most.
 -- Assumes nothing.
 use mathlib.Core.Path.{_≡_, refl, sym, ap, _∙_}
 use mathlib.Core.Logic.{⊎-elim}

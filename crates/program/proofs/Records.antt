@@ -1,4 +1,5 @@
--- A record lies in the bytes that stand there, and bytes behind it change nothing; the number of steps that a script is given does not matter.
+-- A record lies in the bytes that stand there, and bytes behind it change nothing; the number of steps that a script is
+-- given does not matter.
 -- Assumes nothing.
 use mathlib.Core.Path.{_≡_, refl, sym, ap, _∙_}
 use mathlib.Core.Logic.{_⊎_, inl, inr, ⊎-elim, ⊎-map}

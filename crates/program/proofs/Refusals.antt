@@ -1,4 +1,5 @@
--- A state that the program comes to passes the rows 2, 3, 4 and 5, and a request's part is 40 bytes long: none of these refuses.
+-- A state that the program comes to passes the rows 2, 3, 4 and 5, and a request's part is 40 bytes long: none of these
+-- refuses.
 -- Assumes nothing.
 use mathlib.Core.Path.{_≡_, refl, sym, subst}
 use mathlib.Core.Logic.{_⊎_, inl, inr, ⊎-elim}

@@ -1,4 +1,5 @@
--- What is claimed of the script program: its records, the order in which it takes them, what each does, the refusals that it can give, and
+-- What is claimed of the script program: its records, the order in which it takes them, what each does, the refusals
+-- that it can give, and
 -- what some scripts print.
 use Prim.Native.String.{String}
 use Rattle.model.specs.Prelude.{_≡_, _⊎_, List, [], _∷_, _++_, ℕ, _+_, _*_, _/_, _^_, _<_, length, take, drop, replicate}
@@ -29,7 +30,8 @@ pub record ScriptReadsBack : Type 0 where
   pub request : (r : Request) → (recordAt (requestBytes r) ≡ Bind) × (requestIn (requestBytes r) ≡ recordOf r)
   pub address : (x : ℕ) → x < 2 ^ 64 → recordAt (lookUpBytes x) ≡ LookUp x
 
--- a record whose bytes have come is the one that stands in the whole script, and does the same, whatever comes behind it
+-- a record whose bytes have come is the one that stands in the whole script, and does the same, whatever comes behind
+-- it
 abbrev pub Prefix : Type 0
 Prefix = (bs more : List ℕ) → (recordAt bs ≡ Cut) ⊎ ((recordAt bs ≡ End)
     ⊎ ((recordAt (bs ++ more) ≡ recordAt bs) × ((st : State) → step st (bs ++ more) ≡ step st bs)))
@@ -38,7 +40,8 @@ Prefix = (bs more : List ℕ) → (recordAt bs ≡ Cut) ⊎ ((recordAt bs ≡ En
 abbrev pub bindAt : State → List ℕ → Outcome
 bindAt st bs = bind (st .space) (st .table) (st .operations) (bytes (take 40 (drop 2 bs)))
 
--- what stands at the front of the bytes where no record does: nothing; one byte; a known mark with too few bytes behind it; another mark,
+-- what stands at the front of the bytes where no record does: nothing; one byte; a known mark with too few bytes behind
+-- it; another mark,
 -- whatever stands behind it
 pub record Fronts : Type 0 where
   pub nothing : recordAt [] ≡ End
@@ -57,7 +60,8 @@ Takes OtherMark n = ⊥
 Takes Cut n = ⊥
 Takes End n = ⊥
 
--- what is printed for bytes whose first stands at the place p of the script: a record's lines, and then what the bytes behind it give; at
+-- what is printed for bytes whose first stands at the place p of the script: a record's lines, and then what the bytes
+-- behind it give; at
 -- another mark and at a cut the place, and nothing more
 pub record InOrder (st : State) (p : ℕ) (bs : List ℕ) : Type 0 where
   pub goes-on : (n : ℕ) → Takes (recordAt bs) n → run (length bs) st p bs
@@ -67,7 +71,8 @@ pub record InOrder (st : State) (p : ℕ) (bs : List ℕ) : Type 0 where
   pub stops-cut : recordAt bs ≡ Cut → run (length bs) st p bs ≡ ascii "cut " ++ (decimal p ++ ascii "\n")
   pub stops-end : recordAt bs ≡ End → run (length bs) st p bs ≡ []
 
--- a whole script: from a table of 256 mappings that starts as zeros, and a space of four zeros; its first byte is at the place 0
+-- a whole script: from a table of 256 mappings that starts as zeros, and a space of four zeros; its first byte is at
+-- the place 0
 pub record RunsInOrder : Type 0 where
   pub from : (bs : List ℕ) → output bs ≡ run (length bs) (record {
     space = spaceOf 0 0 0 0;
@@ -76,7 +81,8 @@ pub record RunsInOrder : Type 0 where
   }) 0 bs
   pub on : (st : State) (p : ℕ) (bs : List ℕ) → InOrder st p bs
 
--- `RQ` does what the call by record does, on the 40 bytes behind the mark; `LK` what a look-up does, and changes nothing
+-- `RQ` does what the call by record does, on the 40 bytes behind the mark; `LK` what a look-up does, and changes
+-- nothing
 pub record Does (st : State) (bs : List ℕ) : Type 0 where
   pub binds : (g : Grant) → recordAt bs ≡ Bind → bindAt st bs .answer ≡ answered g → step st bs ≡ record {
     told = granted g;

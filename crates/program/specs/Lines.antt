@@ -1,4 +1,5 @@
--- What is claimed of the lines: the digits of a number, and the text of each kind of line, for every number and operation.
+-- What is claimed of the lines: the digits of a number, and the text of each kind of line, for every number and
+-- operation.
 use Rattle.model.specs.Prelude.{_≡_, Bool, List, [], _∷_, _++_, flatMap, ℕ, _+_, _-_, _*_, _≤_, _<_, getD}
 use Rattle.model.specs.Rows.{choose}
 use Rattle.model.specs.Exactly.{Each}

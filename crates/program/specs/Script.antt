@@ -1,4 +1,5 @@
--- The script program (document 01): what stands at a place of a script, what one record does, and all that a script prints.
+-- The script program (document 01): what stands at a place of a script, what one record does, and all that a script
+-- prints.
 use Rattle.model.specs.Prelude.{Bool, _&&_, List, [], _∷_, _++_, flatMap, ℕ, zero, suc, _+_, _*_, leb, eqb, length, getD, take, drop, replicate}
 use Rattle.program.specs.Prelude.{Space, Operation, Shown, Grant}
 use Rattle.model.specs.Rows.{choose, Reply, refused, answered, decide}
@@ -114,7 +115,8 @@ lines p os ended = []
 abbrev pub operationsIn : State → List ℕ → List Operation
 operationsIn st bs = operations (requestOf (requestIn bs)) (mappings (st .table))
 
--- all that is printed for the bytes from place p on, of which there are at most k records; the next record stands where the last one ended
+-- all that is printed for the bytes from place p on, of which there are at most k records; the next record stands where
+-- the last one ended
 unfoldable pub run : ℕ → State → ℕ → List ℕ → List ℕ
 run zero st p bs = []
 run (suc k) st p bs =

@@ -22,7 +22,8 @@ use Rattle.table.specs.Places.{mappingAt, firstWhere, endsBehind, Valid}
 use Rattle.table.proofs.Places.{at-place, from-place, from-end, valid-chain}
 use Rattle.table.proofs.First.{first-most, first-least}
 
--- ends ascend: where one ends at or before x, the first that ends behind x stands behind it (`from ≤ x` is for the induction)
+-- ends ascend: where one ends at or before x, the first that ends behind x stands behind it (`from ≤ x` is for the
+-- induction)
 ends-ascend : (s : Space) (from to : ℕ) (ms : List Mapping) (x i : ℕ) (d : Mapping) → Chain s from to ms → i < length ms → end (getD ms i d) ≤ x
     → (from ≤ x) × (i < firstWhere (endsBehind x) ms)
 unfolding firstWhere

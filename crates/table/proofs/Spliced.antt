@@ -1,4 +1,5 @@
--- A splice in the words is the table written anew: the rest moved, the new mappings written before it, and zeros behind.
+-- A splice in the words is the table written anew: the rest moved, the new mappings written before it, and zeros
+-- behind.
 -- Assumes nothing.
 use mathlib.Core.Path.{_≡_, _∙_}
 use mathlib.Core.List.{List, _++_, append-assoc, flatMap}

@@ -1,4 +1,5 @@
--- What is claimed of the words that C gets: refusal 0 exactly if the call was granted or answered, and no two replies read alike.
+-- What is claimed of the words that C gets: refusal 0 exactly if the call was granted or answered, and no two replies
+-- read alike.
 -- Assumes nothing.
 use mathlib.Core.Path.{_≡_}
 use mathlib.Core.Logic.{_↔_}
