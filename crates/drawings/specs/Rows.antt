@@ -9,7 +9,7 @@ use Rattle.model.specs.Rows.{choose}
 -- the word of a mapping's field: 0 the address, 1 the size, from the first page and the one behind the last, 2 the
 -- object, 3 the offset
 abbrev pub wordOf : ℕ → ℕ → ℕ → ℕ
-wordOf field start n = choose (eqb field 2) n (choose (eqb field 1) ((n - start) * 4096) (n * 4096))
+wordOf field first n = choose (eqb field 2) n (choose (eqb field 1) ((n - first) * 4096) (n * 4096))
 
 -- i is the first place where a and b differ, or their length
 pub record FirstDifference (a b : List ℕ) (i : ℕ) : Type 0 where
