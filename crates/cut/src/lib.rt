@@ -1,9 +1,12 @@
-// What a request makes of the mappings that it hits: the operation of each, its fourteen words, and the operations of a request.
+// What a request makes of the mappings that it hits: the operation of each, its fourteen words, written and read, and the
+// operations of a request.
+use model::Listed;
 use model::Mapping;
 use model::Operation;
 use model::Request;
 use model::Rests;
 ghost use mathlib.Core.Path.{_≡_};
+ghost use mathlib.Core.Option.{none};
 ghost use mathlib.Core.List.{flatMap};
 ghost use Prim.Native.Nat.{_+_, _-_, _*_, _≤_, _<_};
 ghost use lib.Dec.{leb};
@@ -11,7 +14,8 @@ ghost use lib.ListN.{length};
 ghost use Rattle.model.specs.Rows.{choose};
 ghost use Rattle.model.specs.Rules.{limit, stop};
 ghost use Rattle.model.specs.Cut.{lowerPart, upperPart, mappingOf, keepMark, operationOf};
-ghost use Rattle.model.specs.Layout.{operationWords};
+ghost use Rattle.model.specs.Table.{mappingFrom};
+ghost use Rattle.model.specs.Layout.{operationWords, isAbsent, restsIn, operationBy, operationIn, listedOperation};
 ghost use Rattle.words.specs.Words.{stored};
 ghost use Rattle.table.specs.Places.{between};
 ghost use Rattle.cut.specs.Operations.{Cuttable, parts, lowerOf, upperOf, absentRest, hitOperations, operationsFor, Hits};
@@ -204,6 +208,74 @@ fn write_operation(operations: &mut [u64], at: usize, operation: Operation)
             write_parts(operations, at, UNMAP, mark(keep), m, absent(), absent())
         }
     }
+}
+
+// The mapping in the four words from place `i` on.
+fn mapping_from(words: &[u64], i: usize) -> Mapping
+    requires { ⌜ i + 4 ≤ length (now words) ⌝ }
+    ensures { λ m. ⌜ m ≡ mappingFrom i (now (words .entry)) ⌝ }
+{
+    Mapping {
+        address: words[i],
+        size: words[i + 1],
+        object: words[i + 2],
+        offset: words[i + 3],
+    }
+}
+
+// A rest of four zeros.
+fn is_absent(m: Mapping) -> bool
+    ensures { λ b. ⌜ b ≡ isAbsent m ⌝ }
+{
+    (m.address == 0) & (m.size == 0) & (m.object == 0) & (m.offset == 0)
+}
+
+// A remap has a rest.
+fn read_remap(keep: bool, old: Mapping, lower: Mapping, upper: Mapping) -> Listed
+    ensures { λ r. ⌜ listedOperation r ≡ operationBy 1 keep old (restsIn lower upper) ⌝ }
+{
+    if is_absent(lower) {
+        if is_absent(upper) {
+            return Listed::Unknown;
+        }
+        return Listed::Known(Operation::Remap(keep, old, Rests::Upper(upper)));
+    }
+    if is_absent(upper) {
+        return Listed::Known(Operation::Remap(keep, old, Rests::Lower(lower)));
+    }
+    Listed::Known(Operation::Remap(keep, old, Rests::Both(lower, upper)))
+}
+
+// A map and an unmap have none, and there is no other kind.
+fn read_whole(kind: u64, keep: bool, mapping: Mapping) -> Listed
+    ensures { λ r. ⌜ listedOperation r ≡ operationBy kind keep mapping none ⌝ }
+{
+    if kind == MAP {
+        return Listed::Known(Operation::Map(mapping));
+    }
+    if kind == UNMAP {
+        return Listed::Known(Operation::Unmap(keep, mapping));
+    }
+    Listed::Unknown
+}
+
+// The operation that the first fourteen words say.
+pub fn read_operation(words: &[u64]) -> Listed
+    requires { ⌜ 14 ≤ length (now words) ⌝ }
+    ensures { λ r. ⌜ listedOperation r ≡ operationIn (now (words .entry)) ⌝ }
+{
+    let kind = words[0];
+    let keep = words[1] == 1;
+    let mapping = mapping_from(words, 2);
+    let lower = mapping_from(words, 6);
+    let upper = mapping_from(words, 10);
+    if kind == REMAP {
+        return read_remap(keep, mapping, lower, upper);
+    }
+    if is_absent(lower) & is_absent(upper) {
+        return read_whole(kind, keep, mapping);
+    }
+    Listed::Unknown
 }
 
 // Writes the operations of the mappings from place `lo` up to `hi`, from the first word on.

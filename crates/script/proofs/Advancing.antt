@@ -11,7 +11,7 @@ use lib.Seq.{take-all, drop-drop}
 use Rattle.words.proofs.Stored.{stored-behind}
 use Rattle.script.specs.declared.Progress.{Progress}
 use Rattle.script.specs.declared.Turned.{Turned}
-use Rattle.script.specs.Progress.{Ready, Goes, Turns, Advances}
+use Rattle.script.specs.Progress.{Outstanding, Ready, Goes, Turns, Advances}
 use Rattle.script.proofs.Turning.{goes-nowhere}
 
 -- one turn after another
@@ -36,7 +36,7 @@ pub record Far (p : Progress) (ws os bs : List ℕ) (last : Bool) (out : List �
   pub outputs : length out' ≡ length out
   pub room : t .end ≤ length out
 
-pub far-start : (p : Progress) (ws os bs : List ℕ) (last : Bool) (out : List ℕ) → 14 * (p .next + p .left) ≤ length os
+pub far-start : (p : Progress) (ws os bs : List ℕ) (last : Bool) (out : List ℕ) → Outstanding os (p .next) (p .left)
     → Far p ws os bs last out (record { progress = p; taken = 0; end = 0 }) ws os out
 far-start p ws os bs last out held =
     record { goes = goes-nowhere ws os bs last p refl refl held; tables = refl; operations = refl; outputs = refl; room = omega arith }

@@ -1,6 +1,7 @@
--- The operations that a granted request wrote are the lines that are to come.
+-- The operations that a granted request wrote are read as they were written, and their lines are to come.
 -- Assumes nothing.
-use mathlib.Core.Path.{_≡_, refl, sym, ap, ap₂, _∙_}
+use mathlib.Core.Path.{_≡_, refl, ap, _∙_}
+use mathlib.Core.Option.{some}
 use mathlib.Core.List.{List, [], _∷_, _++_, append-assoc, append-nil, flatMap}
 use Prim.Native.Nat.{ℕ, suc, _+_, _*_, _≤_}
 use native.Mathlib.Omega.{arith}
@@ -13,48 +14,62 @@ use Rattle.program.specs.declared.ScriptRecord.the-variants.{SetSpace, Bind, Lo
 use Rattle.model.specs.Rows.{Reply, refused, answered}
 use Rattle.model.specs.Table.{mappings}
 use Rattle.model.specs.Cut.{operations}
-use Rattle.model.specs.Layout.{operationWords}
-use Rattle.model.specs.Calls.{bytes, requestOf}
+use Rattle.model.specs.Layout.{operationWords, operationIn}
+use Rattle.model.specs.Calls.{bytes, requestOf, lookup}
+use Rattle.model.specs.Exactly.{Each}
 use Rattle.program.specs.Text.{operationLines}
 use Rattle.program.specs.Script.{State, granted, emptied, shows, toldBy, setSpace, bindIn, requestIn, stepOn, step, recordAt, operationsIn}
-use Rattle.model.specs.Calls.{lookup}
 use Rattle.model.proofs.Operations.{operations-words}
 use Rattle.model.proofs.Replays.{replay-claim}
-use Rattle.text.specs.Lines.{wordLines}
-use Rattle.text.proofs.Operations.{lines-of}
-use Rattle.script.specs.Progress.{pending}
+use Rattle.model.proofs.OperationWords.{own-operations}
+use Rattle.script.specs.Progress.{operationAt, pending, Known, Outstanding}
 
 operation-words : (o : Operation) → length (operationWords o) ≡ 14
 unfolding flatMap
 operation-words o = rw append-nil at (operations-words (o ∷ []))
 
--- from the i-th on, behind what was written before
-pending-written : (front : List ℕ) (i : ℕ) (ops : List Operation) (tail : List ℕ) → length front ≡ 14 * i
-    → pending (front ++ (flatMap operationWords ops ++ tail)) i (length ops) ≡ flatMap (λ o. wordLines (operationWords o)) ops
-unfolding pending flatMap
-pending-written front i [] tail h = refl
-pending-written front i (o ∷ ops) tail h =
-    let l : length (operationWords o) ≡ 14 = operation-words o in
-    let e : front ++ ((operationWords o ++ flatMap operationWords ops) ++ tail) ≡ front ++ (operationWords o ++ (flatMap operationWords ops ++ tail)) = simp append-assoc in
-    let f : front ++ (operationWords o ++ (flatMap operationWords ops ++ tail)) ≡ (front ++ operationWords o) ++ (flatMap operationWords ops ++ tail) = simp append-assoc in
-    let n : length (front ++ operationWords o) ≡ 14 * suc i = simp length-append (omega arith) in
-    ap₂ _++_
-    (ap wordLines (ap (λ ws. take 14 (drop (14 * i) ws)) e ∙ rw (drop-at front (operationWords o ++ (flatMap operationWords ops ++ tail)) (14 * i) h) (take-at (operationWords o) (flatMap operationWords ops ++ tail) 14 l)))
-    (ap (λ ws. pending ws (suc i) (length ops)) (e ∙ f) ∙ pending-written (front ++ operationWords o) (suc i) ops tail n)
+-- read as it was written
+abbrev Own : Operation → Type 0
+Own o = operationIn (operationWords o) ≡ some o
+
+-- the i-th, behind what was written before
+written-at : (front : List ℕ) (i : ℕ) (o : Operation) (rest : List ℕ) → length front ≡ 14 * i → Own o
+    → operationAt (front ++ (operationWords o ++ rest)) i ≡ some o
+written-at front i o rest h own =
+    ap operationIn (ap (take 14) (drop-at front (operationWords o ++ rest) (14 * i) h) ∙ take-at (operationWords o) rest 14 (operation-words o)) ∙ own
+
+-- and those from it on
+written-from : (front : List ℕ) (i : ℕ) (ops : List Operation) (tail : List ℕ) → length front ≡ 14 * i → Each Own ops
+    → (pending (front ++ (flatMap operationWords ops ++ tail)) i (length ops) ≡ flatMap operationLines ops)
+    × Known (front ++ (flatMap operationWords ops ++ tail)) i (length ops)
+unfolding pending Known flatMap
+written-from front i [] tail h own = (refl, tt)
+written-from front i (o ∷ ops) tail h own =
+    let rest : List ℕ = flatMap operationWords ops ++ tail in
+    let n : length (front ++ operationWords o) ≡ 14 * suc i = simp length-append (omega (arith, operation-words o)) in
+    let d : front ++ ((operationWords o ++ flatMap operationWords ops) ++ tail) ≡ front ++ (operationWords o ++ rest) = simp append-assoc in
+    let e : front ++ (operationWords o ++ rest) ≡ (front ++ operationWords o) ++ rest = simp append-assoc in
+    let at = written-at front i o rest h (own .0) in
+    let behind = written-from (front ++ operationWords o) (suc i) ops tail n (own .1) in
+    rw (d, at) (rw e (ap (_++_ (operationLines o)) (behind .0), ((o, refl), behind .1)))
 
 -- what a step that grants leaves in the operation slice
 pub record Wrote (st : State) (bs : List ℕ) (os : List ℕ) (g : Grant) : Type 0 where
   pub lines : pending os 0 (g .operations) ≡ flatMap operationLines (operationsIn st bs)
-  pub there : 14 * g .operations ≤ length os
+  pub there : Outstanding os 0 (g .operations)
 
 module _ (st : State) (bs : List ℕ) (g : Grant) where
   wrote-request : bindIn st bs .answer ≡ answered g → Wrote st bs (bindIn st bs .operations) g
   wrote-request e =
       let ops : List Operation = operationsIn st bs in
       let r = replay-claim (st .space) (st .table) (st .operations) (bytes (requestIn bs)) g e in
+      let w = written-from [] 0 ops (drop (14 * length ops) (st .operations)) refl (own-operations (requestOf (requestIn bs)) (mappings (st .table))) in
       record {
-        lines = rw (r .words .0, r .number) (pending-written [] 0 ops _ refl ∙ sym (lines-of (requestOf (requestIn bs)) (mappings (st .table))));
-        there = omega (arith, operations-words ops, r .number, r .words .1, simp (length-append, length-drop) at (ap length (r .words .0)));
+        lines = rw (r .words .0, r .number) (w .0);
+        there = record {
+          within = omega (arith, operations-words ops, r .number, r .words .1, simp (length-append, length-drop) at (ap length (r .words .0)));
+          known = rw (r .words .0, r .number) (w .1);
+        };
       }
 
   wrote-on : (e : ScriptRecord) → stepOn e st bs .told ≡ granted g → Wrote st bs (stepOn e st bs .state .operations) g

@@ -2,17 +2,20 @@
 -- Assumes nothing.
 use mathlib.Core.Path.{_≡_, refl}
 use mathlib.Core.Logic.{_⊎_, inl, inr}
-use mathlib.Core.Bool.{Bool, true, false}
+use mathlib.Core.Bool.{Bool}
 use mathlib.Core.List.{List, [], _∷_, _++_}
 use Prim.Native.Nat.{ℕ, _+_, _-_, _≤_}
 use native.Mathlib.Omega.{arith}
-use lib.Dec.{eqb}
-use lib.ListN.{length, getD, length-append}
+use lib.ListN.{length, length-append}
+use Rattle.model.specs.declared.Mapping.{Mapping}
+use Rattle.model.specs.declared.Operation.{Operation}
+use Rattle.model.specs.declared.Operation.the-variants.{Map, Remap, Unmap}
 use Rattle.model.specs.declared.Shown.the-variants.{Nothing, Object}
-use Rattle.model.specs.Rows.{choose, refused}
-use Rattle.program.specs.Text.{ascii}
+use Rattle.model.specs.Rows.{choose}
+use Rattle.model.specs.Table.{wordsOf}
+use Rattle.program.specs.Text.{ascii, keepLine, restLines, operationLines}
 use Rattle.program.specs.Script.{Told, emptied, granted, shows, refusal, otherMark, cut, ended, lines}
-use Rattle.text.specs.Lines.{phraseOf, lineOf, keepOf, oldWords, remapLines, wordLines}
+use Rattle.text.specs.Lines.{phraseOf, lineOf, keepOf}
 
 line-some : (word ns : List ℕ) → 1 ≤ length (lineOf word ns)
 line-some word ns = omega (arith, length-append (phraseOf word ns) (10 ∷ []))
@@ -23,17 +26,15 @@ behind-some text line h = omega (arith, length-append text line)
 before-some : (line text : List ℕ) → 1 ≤ length line → 1 ≤ length (line ++ text)
 before-some line text h = omega (arith, length-append line text)
 
-keep-some : (word mapping : List ℕ) (keep : ℕ) → 1 ≤ length (keepOf word mapping keep)
-keep-some word mapping keep = behind-some (phraseOf word mapping) (lineOf (ascii " keep") (keep ∷ [])) (line-some (ascii " keep") (keep ∷ []))
+keep-some : (word : List ℕ) (keep : Bool) (m : Mapping) → 1 ≤ length (keepOf word keep m)
+keep-some word keep m =
+    let mark : List ℕ = choose keep 1 0 ∷ [] in
+    behind-some (phraseOf word (wordsOf m)) (lineOf (ascii " keep") mark) (line-some (ascii " keep") mark)
 
-pub words-some : (ws : List ℕ) → 1 ≤ length (wordLines ws)
-unfolding wordLines remapLines
-words-some ws = go (eqb (getD ws 0 0) 0) (eqb (getD ws 0 0) 1)
-  where
-    go : (a b : Bool) → 1 ≤ length (choose a (lineOf (ascii "map") (oldWords ws)) (choose b (remapLines ws) (keepOf (ascii "unmap") (oldWords ws) (getD ws 1 0))))
-    go true b = line-some (ascii "map") (oldWords ws)
-    go false true = before-some (keepOf (ascii "remap") (oldWords ws) (getD ws 1 0)) _ (keep-some (ascii "remap") (oldWords ws) (getD ws 1 0))
-    go false false = keep-some (ascii "unmap") (oldWords ws) (getD ws 1 0)
+pub operation-some : (o : Operation) → 1 ≤ length (operationLines o)
+operation-some (Map m) = line-some (ascii "map") (wordsOf m)
+operation-some (Remap keep m rs) = before-some (keepLine "remap" keep m) (restLines rs) (keep-some (ascii "remap") keep m)
+operation-some (Unmap keep m) = keep-some (ascii "unmap") keep m
 
 pub lines-some : (p : ℕ) (t : Told) → (t ≡ ended) ⊎ (1 ≤ length (lines p [] t))
 lines-some p (emptied n) = inr (line-some (ascii "space") (n ∷ []))

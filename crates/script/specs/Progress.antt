@@ -3,22 +3,43 @@
 use mathlib.Core.Path.{_≡_}
 use mathlib.Core.Logic.{_⊎_}
 use mathlib.Core.Bool.{Bool, true, false}
+use mathlib.Core.Option.{Option, none, some}
 use mathlib.Core.List.{List, [], _++_}
 use Prim.Native.Nat.{ℕ, zero, suc, _+_, _*_, _^_, _≤_, _<_}
 use lib.ListN.{length, take, drop}
-use Rattle.program.specs.declared.ScriptRecord.the-variants.{Cut, End}
+use Rattle.model.specs.declared.Operation.{Operation}
 use Rattle.model.specs.Rows.{choose}
+use Rattle.model.specs.Layout.{operationIn}
+use Rattle.program.specs.declared.ScriptRecord.the-variants.{Cut, End}
+use Rattle.program.specs.Text.{operationLines}
 use Rattle.program.specs.Script.{Told, emptied, granted, shows, refusal, otherMark, cut, ended, recordAt, run, start}
 use Rattle.words.specs.Words.{stored}
-use Rattle.text.specs.Lines.{wordLines}
 use Rattle.script.specs.declared.Progress.{Progress}
 use Rattle.script.specs.declared.Turned.{Turned}
 use Rattle.script.specs.Steps.{stateOf}
 
--- the lines of n operations, from the i-th on, in the words of the operation slice
+-- the i-th operation in the words of the operation slice, if they are one, and its lines
+abbrev pub operationAt : List ℕ → ℕ → Option Operation
+operationAt os i = operationIn (take 14 (drop (14 * i) os))
+
+abbrev pub listedLines : Option Operation → List ℕ
+listedLines none = []
+listedLines (some o) = operationLines o
+
+-- the lines of n operations, from the i-th on
 unfoldable pub pending : List ℕ → ℕ → ℕ → List ℕ
 pending os i zero = []
-pending os i (suc n) = wordLines (take 14 (drop (14 * i) os)) ++ pending os (suc i) n
+pending os i (suc n) = listedLines (operationAt os i) ++ pending os (suc i) n
+
+-- n operations are there, from the i-th on
+unfoldable pub Known : List ℕ → ℕ → ℕ → Type 0
+Known os i zero = Unit {0}
+Known os i (suc n) = ((o : Operation) × (operationAt os i ≡ some o)) × Known os (suc i) n
+
+-- the operations still to be printed, `left` of them from the one numbered `next` on, are there
+pub record Outstanding (os : List ℕ) (next left : ℕ) : Type 0 where
+  pub within : 14 * (next + left) ≤ length os
+  pub known : Known os next left
 
 -- all that is still to be printed: the operations of the last grant, and what the unread bytes bs give; ws are the table's words, os the operations'
 unfoldable pub toCome : Progress → List ℕ → List ℕ → List ℕ → List ℕ
@@ -54,7 +75,7 @@ operationCount ended = 0
 -- a place that fits 64 bits, and operations that are there
 pub record Ready (p : Progress) (os bs : List ℕ) : Type 0 where
   pub places : p .place + length bs < 2 ^ 64
-  pub held : 14 * (p .next + p .left) ≤ length os
+  pub held : Outstanding os (p .next) (p .left)
 
 -- nothing can be printed from the bytes bs: the program has stopped, or waits for more bytes
 pub record Idle (p : Progress) (bs : List ℕ) (last : Bool) : Type 0 where
@@ -69,7 +90,7 @@ pub record Goes (p : Progress) (ws os bs : List ℕ) (last : Bool) (out : List �
   pub goes-on : (more : List ℕ) → (last ≡ true → more ≡ []) → toCome p ws os (bs ++ more) ≡ text ++ toCome (t .progress) ws' os' (drop (t .taken) bs ++ more)
   pub within : t .taken ≤ length bs
   pub place : t .progress .place ≡ p .place + t .taken
-  pub held : 14 * (t .progress .next + t .progress .left) ≤ length os'
+  pub held : Outstanding os' (t .progress .next) (t .progress .left)
 
 -- one turn: at most so many bytes, and none only where there is nothing to print
 pub record Turns (p : Progress) (ws os bs : List ℕ) (last : Bool) (out : List ℕ) (at : ℕ) (t : Turned) (ws' os' out' : List ℕ) : Type 0 where

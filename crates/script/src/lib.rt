@@ -1,6 +1,7 @@
 // The script program on lent buffers: what stands at a place of the script, and what one record does.
 use model::Answer;
 use model::Found;
+use model::Listed;
 use model::Range;
 use model::Refusal;
 use model::Space;
@@ -11,11 +12,13 @@ ghost use mathlib.Core.List.{List};
 ghost use mathlib.Core.Bool.{Bool, false};
 ghost use Prim.Native.Nat.{ℕ, _+_, _-_, _*_, _≤_, _<_};
 ghost use lib.ListN.{length};
+ghost use Rattle.model.specs.Layout.{operationIn};
 ghost use Rattle.program.specs.declared.ScriptRecord.the-variants.{SetSpace, Bind, LookUp};
 ghost use Rattle.program.specs.Script.{hasMark, spaceIn, recordAt, recordSize, requestIn, stepOn, step, responseTold};
 ghost use Rattle.words.specs.Words.{moved};
+ghost use Rattle.text.specs.Lines.{Put};
 ghost use Rattle.script.specs.Steps.{stateOf, Steps};
-ghost use Rattle.script.specs.Progress.{startProgress, waits, operationCount, Ready, Turns, Advances};
+ghost use Rattle.script.specs.Progress.{listedLines, Outstanding, startProgress, waits, operationCount, Ready, Turns, Advances};
 
 // What the program holds after a record, its answer, and how many bytes the record takes.
 pub struct Stepped {
@@ -198,15 +201,26 @@ pub fn start() -> Progress
     }
 }
 
+// The lines of the operation in fourteen words; none where they are no operation.
+fn put_listed(out: &mut [u8], at: usize, words: &[u64]) -> usize
+    requires { ⌜ (at + 320 ≤ length (now out)) × (14 ≤ length (now words)) ⌝ }
+    ensures { λ end. ⌜ Put (now (out .entry)) at (listedLines (operationIn (now (words .entry)))) (now (out .exit)) end 320 ⌝ }
+{
+    match cut::read_operation(words) {
+        Listed::Known(operation) => text::put_operation(out, at, operation),
+        Listed::Unknown => at,
+    }
+}
+
 // The lines of the next operation.
 fn write_operation(p: Progress, operations: &[u64], out: &mut [u8], at: usize) -> Turned
-    requires { ⌜ (0 < p .left) × (14 * (p .next + p .left) ≤ length (now operations)) × (at + 320 ≤ length (now out)) ⌝ }
+    requires { ⌜ (0 < p .left) × Outstanding (now operations) (p .next) (p .left) × (at + 320 ≤ length (now out)) ⌝ }
     ensures { λ t. ⌜ ((ws bs : List ℕ) (last : Bool) → Turns p ws (now (operations .entry)) bs last (now (out .entry)) at t ws (now (operations .entry)) (now (out .exit))) ⌝ }
 {
     let next = p.next;
     let from = OPERATION_WORDS * next;
     let to = from + OPERATION_WORDS;
-    let end = text::put_operation(out, at, &operations[from..to]);
+    let end = put_listed(out, at, &operations[from..to]);
     let space = p.space;
     let progress = Progress {
         space,

@@ -1,5 +1,3 @@
 pub mod Decimals
 pub mod Puts
 pub mod Numbers
-pub mod Lines
-pub mod Operations

@@ -1,20 +1,25 @@
 // The lines of the script program, written into a lent byte slice from a place on. Every byte is pinned: a promise gives the
 // slice as it is afterwards and the place behind the last byte written.
+use model::Mapping;
+use model::Operation;
+use model::Rests;
 use model::Shown;
 use program::Response;
 ghost use mathlib.Core.Path.{_≡_};
 ghost use mathlib.Core.List.{[], _∷_};
 ghost use Prim.Native.Nat.{_+_, _*_, _≤_};
 ghost use lib.ListN.{length};
-ghost use Rattle.program.specs.Text.{decimal, spaced, shownLine};
+ghost use Rattle.model.specs.Rows.{choose};
+ghost use Rattle.model.specs.Table.{wordsOf};
+ghost use Rattle.program.specs.Text.{decimal, spaced, restLines, operationLines, shownLine};
 ghost use Rattle.program.specs.Script.{lines, responseTold};
-ghost use Rattle.text.specs.Lines.{Put, phraseOf, lineOf, keepOf, restOf, remapLines, wordLines};
+ghost use Rattle.text.specs.Lines.{Put, phraseOf, lineOf, keepOf};
 
 // The lines of an operation have no more bytes than this; an answer's line has fewer.
 pub const MOST_OPERATION: usize = 320;
 
 // A run of bytes.
-fn put_bytes(out: &mut [u8], at: usize, run: &[u8]) -> usize
+pub fn put_bytes(out: &mut [u8], at: usize, run: &[u8]) -> usize
     requires { ⌜ at + length (now run) ≤ length (now out) ⌝ }
     ensures { λ end. ⌜ Put (now (out .entry)) at (now (run .entry)) (now (out .exit)) end (length (now (run .entry))) ⌝ }
 {
@@ -82,49 +87,57 @@ fn put_line(out: &mut [u8], at: usize, word: &[u8], numbers: &[u64]) -> usize
     end + 1
 }
 
-// A mapping's four words, and the keep mark.
-fn put_keep(out: &mut [u8], at: usize, word: &[u8], mapping: &[u64], keep: u64) -> usize
-    requires { ⌜ (at + (length (now word) + 111) ≤ length (now out)) × (length (now mapping) ≡ 4) ⌝ }
-    ensures { λ end. ⌜ Put (now (out .entry)) at (keepOf (now (word .entry)) (now (mapping .entry)) keep) (now (out .exit)) end (length (now (word .entry)) + 111) ⌝ }
+// A line with a mapping's four numbers.
+fn put_mapping(out: &mut [u8], at: usize, word: &[u8], m: Mapping) -> usize
+    requires { ⌜ at + (length (now word) + 85) ≤ length (now out) ⌝ }
+    ensures { λ end. ⌜ Put (now (out .entry)) at (lineOf (now (word .entry)) (wordsOf m)) (now (out .exit)) end (length (now (word .entry)) + 85) ⌝ }
 {
-    let behind = put_phrase(out, at, word, mapping);
-    put_line(out, behind, b" keep", &[keep])
+    put_line(out, at, word, &[m.address, m.size, m.object, m.offset])
 }
 
-// A rest that is not absent: its four words are not all zero exactly if its size isn't.
-fn put_rest(out: &mut [u8], at: usize, word: &[u8], rest: &[u64]) -> usize
-    requires { ⌜ (at + (length (now word) + 85) ≤ length (now out)) × (length (now rest) ≡ 4) ⌝ }
-    ensures { λ end. ⌜ Put (now (out .entry)) at (restOf (now (word .entry)) (now (rest .entry))) (now (out .exit)) end (length (now (word .entry)) + 85) ⌝ }
+fn mark(keep: bool) -> u64
+    ensures { λ n. ⌜ n ≡ choose keep 1 0 ⌝ }
 {
-    if rest[1] == 0 {
-        return at;
-    }
-    put_line(out, at, word, rest)
+    if keep { 1 } else { 0 }
 }
 
-// A remap's lines: its own, and one for each rest.
-fn put_remap(out: &mut [u8], at: usize, operation: &[u64]) -> usize
-    requires { ⌜ (at + 320 ≤ length (now out)) × (length (now operation) ≡ 14) ⌝ }
-    ensures { λ end. ⌜ Put (now (out .entry)) at (remapLines (now (operation .entry))) (now (out .exit)) end 320 ⌝ }
+// The same, and the keep mark.
+fn put_keep(out: &mut [u8], at: usize, word: &[u8], keep: bool, m: Mapping) -> usize
+    requires { ⌜ at + (length (now word) + 111) ≤ length (now out) ⌝ }
+    ensures { λ end. ⌜ Put (now (out .entry)) at (keepOf (now (word .entry)) keep m) (now (out .exit)) end (length (now (word .entry)) + 111) ⌝ }
 {
-    let remapped = put_keep(out, at, b"remap", &operation[2..6], operation[1]);
-    let lower = put_rest(out, remapped, b"lower", &operation[6..10]);
-    put_rest(out, lower, b"upper", &operation[10..])
+    let behind = put_phrase(out, at, word, &[m.address, m.size, m.object, m.offset]);
+    put_line(out, behind, b" keep", &[mark(keep)])
 }
 
-// The lines of the operation in fourteen words.
-pub fn put_operation(out: &mut [u8], at: usize, operation: &[u64]) -> usize
-    requires { ⌜ (at + 320 ≤ length (now out)) × (length (now operation) ≡ 14) ⌝ }
-    ensures { λ end. ⌜ Put (now (out .entry)) at (wordLines (now (operation .entry))) (now (out .exit)) end 320 ⌝ }
+// A line for each rest.
+fn put_rests(out: &mut [u8], at: usize, rests: Rests) -> usize
+    requires { ⌜ at + 180 ≤ length (now out) ⌝ }
+    ensures { λ end. ⌜ Put (now (out .entry)) at (restLines rests) (now (out .exit)) end 180 ⌝ }
 {
-    let kind = operation[0];
-    if kind == 0 {
-        return put_line(out, at, b"map", &operation[2..6]);
+    match rests {
+        Rests::Lower(lower) => put_mapping(out, at, b"lower", lower),
+        Rests::Upper(upper) => put_mapping(out, at, b"upper", upper),
+        Rests::Both(lower, upper) => {
+            let behind = put_mapping(out, at, b"lower", lower);
+            put_mapping(out, behind, b"upper", upper)
+        }
     }
-    if kind == 1 {
-        return put_remap(out, at, operation);
+}
+
+// The lines of an operation.
+pub fn put_operation(out: &mut [u8], at: usize, operation: Operation) -> usize
+    requires { ⌜ at + 320 ≤ length (now out) ⌝ }
+    ensures { λ end. ⌜ Put (now (out .entry)) at (operationLines operation) (now (out .exit)) end 320 ⌝ }
+{
+    match operation {
+        Operation::Map(m) => put_mapping(out, at, b"map", m),
+        Operation::Remap(keep, m, rests) => {
+            let behind = put_keep(out, at, b"remap", keep, m);
+            put_rests(out, behind, rests)
+        }
+        Operation::Unmap(keep, m) => put_keep(out, at, b"unmap", keep, m),
     }
-    put_keep(out, at, b"unmap", &operation[2..6], operation[1])
 }
 
 // The line of an address and what it shows.

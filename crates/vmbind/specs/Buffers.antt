@@ -3,10 +3,11 @@
 use mathlib.Core.Path.{_≡_}
 use mathlib.Core.Bool.{Bool, true, false}
 use mathlib.Core.List.{List, _++_}
-use Prim.Native.Nat.{ℕ, zero, suc, _+_, _-_, _*_, _≤_, min}
+use Prim.Native.Nat.{ℕ, zero, suc, _+_, _-_, _≤_, min}
 use lib.IntN.{ℤ, pos, negsuc}
 use lib.ListN.{length, take, drop}
 use Rattle.script.specs.declared.Progress.{Progress}
+use Rattle.script.specs.Progress.{Outstanding}
 use Rattle.script.specs.Streaming.{Stream}
 use Rattle.vmbind.specs.declared.Run.{Run}
 use Rattle.vmbind.specs.declared.Got.{Got}
@@ -63,7 +64,7 @@ pub record Refilled (p : Progress) (bs : List ℕ) (r : Run) (input : List ℕ) 
 pub record Held (r : Run) (os : List ℕ) (n : ℕ) : Type 0 where
   pub order : r .from ≤ r .to
   pub inside : r .to ≤ n
-  pub there : 14 * (r .progress .next + r .progress .left) ≤ length os
+  pub there : Outstanding os (r .progress .next) (r .progress .left)
 
 -- a round goes on with a stream: some bytes more have come, and some text more was printed
 pub record Carries (run : Run) (ws os input : List ℕ) (r : Run) (ws' os' input' : List ℕ) : Type 0 where

@@ -14,20 +14,20 @@ mul-from c = search needs
 add-to : tie.Need-add-to
 add-to c = search needs
 
-mul-put-operation : tie.Need-mul-put-operation
-mul-put-operation c = search needs
+mul-put-listed : tie.Need-mul-put-listed
+mul-put-listed c = search needs
 
-sub-put-operation : tie.Need-sub-put-operation
-sub-put-operation c = search needs
+sub-put-listed : tie.Need-sub-put-listed
+sub-put-listed c = search needs
 
-part-put-operation-start : tie.Need-part-put-operation-start
-part-put-operation-start c = search needs
+part-put-listed-start : tie.Need-part-put-listed-start
+part-put-listed-start c = search needs
 
-part-put-operation-end : tie.Need-part-put-operation-end
-part-put-operation-end c = search needs
+part-put-listed-end : tie.Need-part-put-listed-end
+part-put-listed-end c = search needs
 
-put-operation-requires : tie.Need-put-operation-requires
-put-operation-requires c κs = search needs
+put-listed-requires : tie.Need-put-listed-requires
+put-listed-requires c κs = search needs
 
 add-t13 : tie.Need-add-t13
 add-t13 c = search needs
@@ -39,7 +39,12 @@ same-length : tie.Need-same-length
 same-length c = search needs
 
 returns : tie.Need-returns
-returns c = let put = c .before .before .before .before in let s = put .before .before .before .before .before in let p = s .args .p in let e : 14 * p .next + 14 - 14 * p .next ≡ 14 = omega arith in operation-turns p (s .args .operations .now) (s .pre .0) (s .pre .1) (rw e at (put .put-operation .ensures))
+returns c =
+    let put = c .before .before .before .before in
+    let s = put .before .before .before .before .before in
+    let p = s .args .p in
+    let e : 14 * p .next + 14 - 14 * p .next ≡ 14 = omega arith in
+    operation-turns p (s .args .operations .now) (s .pre .0) (s .pre .1) (rw e at (put .put-listed .ensures))
 
 pub write-operation-spec : {M : Type 1} → statement M
 write-operation-spec =
@@ -47,11 +52,11 @@ write-operation-spec =
     (tie.spec
     mul-from
     add-to
-    mul-put-operation
-    sub-put-operation
-    part-put-operation-start
-    part-put-operation-end
-    put-operation-requires
+    mul-put-listed
+    sub-put-listed
+    part-put-listed-start
+    part-put-listed-end
+    put-listed-requires
     add-t13
     sub-t15
     same-length

@@ -3,6 +3,7 @@
 use mathlib.Core.List.{[]}
 use native.Mathlib.Omega.{arith}
 use Rattle.script.specs.Streaming.{begun}
+use Rattle.script.proofs.Turning.{none-outstanding}
 use Rattle.vmbind.proofs.Rounds.{Going, goes-on}
 use borrow.Author.Needs.{needs}
 use Rattle.vmbind.proofs.main.Statement.{statement}
@@ -20,7 +21,7 @@ start-requires : tie.Need-start-requires Inv-loop μ-loop
 start-requires c κs = search needs
 
 loop-holds : tie.Need-loop-holds Inv-loop μ-loop
-loop-holds c = rw (c .start .ensures) (record { bytes = []; text = []; held = record { order = omega arith; inside = omega arith; there = omega arith }; stream = begun })
+loop-holds c = rw (c .start .ensures) (record { bytes = []; text = []; held = record { order = omega arith; inside = omega arith; there = none-outstanding }; stream = begun })
 
 round-requires : tie.Need-round-requires Inv-loop μ-loop
 round-requires c κs = c .before .before .before .before .before .loop .inv .held
