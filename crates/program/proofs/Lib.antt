@@ -2,6 +2,7 @@ pub mod Printed
 pub mod Decimal
 pub mod Lines
 pub mod Records
+pub mod Leaves
 pub mod Order
 pub mod Written
 pub mod Spaces

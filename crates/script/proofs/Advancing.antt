@@ -1,17 +1,19 @@
 -- One turn after another.
 -- Assumes nothing.
-use mathlib.Core.Path.{_≡_, refl, sym, _∙_}
-use mathlib.Core.Logic.{inl, inr}
+use mathlib.Core.Path.{_≡_, refl, sym, ap, _∙_}
+use mathlib.Core.Logic.{_⊎_, inl, inr}
 use mathlib.Core.Bool.{Bool}
-use mathlib.Core.List.{List, _++_, append-assoc}
+use mathlib.Core.List.{List, [], _++_, append-assoc, append-nil}
 use Prim.Native.Nat.{ℕ, _+_, _-_, _*_, _^_, _≤_, _<_}
 use native.Mathlib.Omega.{arith}
 use lib.ListN.{length, take, drop, length-append, length-drop}
-use lib.Seq.{take-all, drop-drop}
+use lib.Seq.{take-all, take-add, drop-drop}
+use Rattle.program.specs.Script.{leaves}
+use Rattle.program.proofs.Leaves.{leaves-nil}
 use Rattle.words.proofs.Stored.{stored-behind}
 use Rattle.script.specs.declared.Progress.{Progress}
 use Rattle.script.specs.declared.Turned.{Turned}
-use Rattle.script.specs.Progress.{Outstanding, Ready, Goes, Turns, Advances}
+use Rattle.script.specs.Progress.{Outstanding, Ready, Idle, Goes, Turns, Advances}
 use Rattle.script.proofs.Turning.{goes-nowhere}
 
 -- one turn after another
@@ -23,10 +25,24 @@ goes-further {p} {ws} {os} {bs} {last} {out} {at} {t} {u} {v} h g k e = rw e (re
   bytes = k .bytes ∙ rw (g .bytes, g .behind) (stored-behind out at (g .text) (k .text) h);
   behind = omega (arith, g .behind, k .behind, length-append (g .text) (k .text));
   goes-on = λ more ends. g .goes-on more ends ∙ rw (k .goes-on more ends, drop-drop (u .taken) (t .taken) bs) (sym (append-assoc (g .text) (k .text) _));
+  state = λ more.
+      rw (take-add (t .taken) (u .taken) bs, append-assoc (take (t .taken) bs) (take (u .taken) (drop (t .taken) bs)) more)
+      (g .state (take (u .taken) (drop (t .taken) bs) ++ more) ∙ k .state more);
   within = omega (arith, g .within, k .within, length-drop (t .taken) bs);
   place = omega (arith, g .place, k .place);
   held = k .held;
 })
+
+-- enough of them; the words are what the bytes taken leave, with none behind them
+advanced : {p : Progress} {ws os bs : List ℕ} {last : Bool} {out : List ℕ} {t : Turned} {ws' os' out' : List ℕ}
+    → Goes p ws os bs last out 0 t ws' os' out' → t .end ≤ length out → (length out < t .end + 320) ⊎ Idle (t .progress) (drop (t .taken) bs) last
+    → Advances p ws os bs last out t ws' os' out'
+advanced {bs = bs} {t = t} g room ended = record {
+  goes = g;
+  words = sym (ap (leaves _) (sym (append-nil (take (t .taken) bs))) ∙ g .state [] ∙ leaves-nil _);
+  room = room;
+  ended = ended;
+}
 
 -- how far they have come, from the front of the output on
 pub record Far (p : Progress) (ws os bs : List ℕ) (last : Bool) (out : List ℕ) (t : Turned) (ws' os' out' : List ℕ) : Type 0 where
@@ -65,15 +81,11 @@ module _ {p : Progress} {ws os bs : List ℕ} {last : Bool} {out : List ℕ} {t 
   pub far-idle : u .end ≤ t .end → Advances p ws os bs last out (record { progress = u .progress; taken = t .taken + u .taken; end = t .end }) ws'' os'' out''
   far-idle h =
       let e : u .end ≡ t .end = omega (arith, one-more .goes .behind) in
-      record {
-        goes = goes-further (omega arith) (far .goes) (one-more .goes) (rw e);
-        room = far .room;
-        ended = inr (rw (drop-drop (u .taken) (t .taken) bs) at (one-more .idle e));
-      }
+      advanced (goes-further (omega arith) (far .goes) (one-more .goes) (rw e)) (far .room) (inr (rw (drop-drop (u .taken) (t .taken) bs) at (one-more .idle e)))
 
 module _ {p : Progress} {ws os bs : List ℕ} {last : Bool} {out : List ℕ} {t : Turned} {ws' os' out' : List ℕ} (far : Far p ws os bs last out t ws' os' out') where
   pub far-ready : p .place + length bs < 2 ^ 64 → Ready (t .progress) os' (take (length bs - t .taken) (drop (t .taken) bs))
   far-ready h = rw (lent-rest (t .taken) bs) (record { places = omega (arith, far .goes .place, far .goes .within, length-drop (t .taken) bs); held = far .goes .held })
 
   pub far-full : length out' < t .end + 320 → Advances p ws os bs last out t ws' os' out'
-  far-full h = record { goes = far .goes; room = far .room; ended = inl (omega (arith, far .outputs)) }
+  far-full h = advanced (far .goes) (far .room) (inl (omega (arith, far .outputs)))

@@ -9,7 +9,6 @@ use native.Mathlib.Omega.{arith}
 use lib.Dec.{eqb}
 use lib.ListN.{length, drop, length-drop}
 use lib.Seq.{drop-append-le}
-use borrow.Author.Tests.{eqb-false}
 use Rattle.model.specs.declared.Grant.{Grant}
 use Rattle.model.specs.declared.Shown.{Shown}
 use Rattle.program.specs.declared.ScriptRecord.{ScriptRecord}
@@ -17,7 +16,7 @@ use Rattle.program.specs.declared.ScriptRecord.the-variants.{SetSpace, Bind, Lo
 use Rattle.model.specs.Rows.{choose, Reply, refused, answered}
 use Rattle.model.specs.Calls.{lookup}
 use Rattle.program.specs.Script.{State, Told, emptied, granted, shows, refusal, otherMark, cut, ended, recordAt, recordSize, toldBy, setSpace, bindIn, Step, stepOn, step, lines, operationsIn, run, responseTold}
-use Rattle.program.proofs.Records.{record-fits, prefix, run-fuel}
+use Rattle.program.proofs.Records.{record-fits, prefix, where-some, run-fuel}
 use Rattle.script.specs.declared.Progress.{Progress}
 use Rattle.script.specs.declared.Stepped.{Stepped}
 use Rattle.script.specs.Steps.{stateOf, Steps}
@@ -31,15 +30,10 @@ run-step : (st : State) (p : ℕ) (bs : List ℕ) → run (length bs) st p bs
     (run (length (drop (recordSize (recordAt bs)) bs)) (step st bs .state) (p + recordSize (recordAt bs)) (drop (recordSize (recordAt bs)) bs))
 unfolding run step recordAt
 run-step st p [] = refl
-run-step st p (b ∷ bs) = ap (_++_ (lines p (operationsIn st (b ∷ bs)) (step st (b ∷ bs) .told))) (go (eqb n 0) refl)
-  where
-    n : ℕ
-    n = recordSize (recordAt (b ∷ bs))
-
-    go : (t : Bool) → eqb n 0 ≡ t → choose t [] (run (length bs) (step st (b ∷ bs) .state) (p + n) (drop n (b ∷ bs)))
-        ≡ choose t [] (run (length (drop n (b ∷ bs))) (step st (b ∷ bs) .state) (p + n) (drop n (b ∷ bs)))
-    go true e = refl
-    go false e = run-fuel (length bs) (length (drop n (b ∷ bs))) _ _ (drop n (b ∷ bs)) (simp length-drop (omega (arith, eqb-false n 0 e))) (omega arith)
+run-step st p (b ∷ bs) =
+    let n : ℕ = recordSize (recordAt (b ∷ bs)) in
+    ap (_++_ (lines p (operationsIn st (b ∷ bs)) (step st (b ∷ bs) .told))) (where-some n [] (λ some.
+    run-fuel (length bs) (length (drop n (b ∷ bs))) _ _ (drop n (b ∷ bs)) (simp length-drop (omega (arith, some))) (omega arith)))
 
 -- the lines are the answer's own, and those of the operations that it hands over
 lines-split : (p : ℕ) (st : State) (bs : List ℕ) → lines p (operationsIn st bs) (step st bs .told)

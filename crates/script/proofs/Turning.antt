@@ -13,8 +13,9 @@ use borrow.Author.Tests.{eq-eqb}
 use Rattle.model.specs.declared.Operation.{Operation}
 use Rattle.program.specs.declared.ScriptRecord.{ScriptRecord}
 use Rattle.program.specs.declared.ScriptRecord.the-variants.{Cut, End}
-use Rattle.program.specs.Script.{State, Told, emptied, granted, shows, refusal, otherMark, cut, ended, recordAt, recordSize, Step, step, lines, responseTold}
+use Rattle.program.specs.Script.{State, Told, emptied, granted, shows, refusal, otherMark, cut, ended, recordAt, recordSize, Step, step, lines, leaves, responseTold}
 use Rattle.program.proofs.Records.{record-fits}
+use Rattle.program.proofs.Leaves.{leaves-step}
 use Rattle.words.proofs.Stored.{stored-none}
 use Rattle.text.specs.Lines.{Put}
 use Rattle.script.specs.declared.Progress.{Progress}
@@ -33,6 +34,7 @@ module _ (ws os bs : List ℕ) (last : Bool) {out : List ℕ} {at : ℕ} where
     bytes = sym (stored-none out at);
     behind = omega arith;
     goes-on = λ more ends. rw (w, o);
+    state = λ more. rw (w, o);
     within = omega arith;
     place = omega arith;
     held = rw o held;
@@ -68,6 +70,7 @@ operation-turns p os {at = at} {end = end} some-left held put ws bs last = let f
     bytes = put .bytes;
     behind = put .behind;
     goes-on = λ more ends. rw (f .lines) (append-assoc (listedLines (operationAt os (p .next))) (pending os (p .next + 1) (p .left - 1)) _);
+    state = λ more. refl;
     within = omega arith;
     place = omega arith;
     held = f .rest;
@@ -107,6 +110,7 @@ module _ (p : Progress) (ws os bs : List ℕ) (last : Bool) {out : List ℕ} {at
       bytes = put .bytes;
       behind = put .behind;
       goes-on = answered-on p ws os bs last none going did goes;
+      state = λ more. rw (did .takes) (leaves-step (heldBy p ws os) bs more ∙ ap (λ (d : Step). leaves (d .state) more) (did .leaves));
       within = omega (arith, did .takes, record-fits bs);
       place = refl;
       held = rw (did .leaves) at (outstanding (heldBy p ws os) bs);

@@ -12,7 +12,7 @@ use Rattle.model.specs.Rows.{choose}
 use Rattle.model.specs.Layout.{operationIn}
 use Rattle.program.specs.declared.ScriptRecord.the-variants.{Cut, End}
 use Rattle.program.specs.Text.{operationLines}
-use Rattle.program.specs.Script.{Told, emptied, granted, shows, refusal, otherMark, cut, ended, recordAt, run, start}
+use Rattle.program.specs.Script.{Told, emptied, granted, shows, refusal, otherMark, cut, ended, recordAt, run, leaves, start}
 use Rattle.words.specs.Words.{stored}
 use Rattle.script.specs.declared.Progress.{Progress}
 use Rattle.script.specs.declared.Turned.{Turned}
@@ -82,12 +82,15 @@ pub record Idle (p : Progress) (bs : List ℕ) (last : Bool) : Type 0 where
   pub none-left : p .left ≡ 0
   pub because : (p .stopped ≡ true) ⊎ ((last ≡ false) × ((recordAt bs ≡ Cut) ⊎ (recordAt bs ≡ End)))
 
--- from p, with the unread bytes bs, some text was put at a place of the output, and what it leaves goes on with the rest, whatever bytes come behind; none come where bs are the last
+-- from p, with the unread bytes bs, some text was put at a place of the output, and what it leaves goes on with the rest, whatever bytes come behind;
+-- none come where bs are the last. What is held is what the bytes taken leave
 pub record Goes (p : Progress) (ws os bs : List ℕ) (last : Bool) (out : List ℕ) (at : ℕ) (t : Turned) (ws' os' out' : List ℕ) : Type 0 where
   pub text : List ℕ
   pub bytes : out' ≡ stored out at text
   pub behind : t .end ≡ at + length text
   pub goes-on : (more : List ℕ) → (last ≡ true → more ≡ []) → toCome p ws os (bs ++ more) ≡ text ++ toCome (t .progress) ws' os' (drop (t .taken) bs ++ more)
+  pub state : (more : List ℕ) → leaves (stateOf (p .space) ws (p .count) os) (take (t .taken) bs ++ more)
+      ≡ leaves (stateOf (t .progress .space) ws' (t .progress .count) os') more
   pub within : t .taken ≤ length bs
   pub place : t .progress .place ≡ p .place + t .taken
   pub held : Outstanding os' (t .progress .next) (t .progress .left)
@@ -101,5 +104,7 @@ pub record Turns (p : Progress) (ws os bs : List ℕ) (last : Bool) (out : List 
 -- as many turns as there is room for, from the front of the output on
 pub record Advances (p : Progress) (ws os bs : List ℕ) (last : Bool) (out : List ℕ) (t : Turned) (ws' os' out' : List ℕ) : Type 0 where
   pub goes : Goes p ws os bs last out 0 t ws' os' out'
+  -- the lent words, and the space and the count, are what the records taken leave of them; also where the program has stopped
+  pub words : stateOf (t .progress .space) ws' (t .progress .count) os' ≡ leaves (stateOf (p .space) ws (p .count) os) (take (t .taken) bs)
   pub room : t .end ≤ length out
   pub ended : (length out < t .end + 320) ⊎ Idle (t .progress) (drop (t .taken) bs) last

@@ -5,9 +5,10 @@ use mathlib.Core.Bool.{Bool, true, false}
 use mathlib.Core.List.{List, [], _++_}
 use Prim.Native.Nat.{ℕ}
 use lib.ListN.{drop}
-use Rattle.program.specs.Script.{start, output}
+use Rattle.program.specs.Script.{start, leaves, output}
 use Rattle.script.specs.declared.Progress.{Progress}
 use Rattle.script.specs.declared.Turned.{Turned}
+use Rattle.script.specs.Steps.{stateOf}
 use Rattle.script.specs.Progress.{startProgress, toCome, Goes}
 
 -- the bytes that have come, whether they are the last, those still unread, the text printed, and what the program holds: progress, table words, operation words
@@ -28,3 +29,6 @@ pub record Prints : Type 0 where
   -- where the program has stopped and no operation is left, all of it has been printed
   pub over : {bs : List ℕ} {last : Bool} {unread text : List ℕ} {p : Progress} {ws os : List ℕ} → Stream bs last unread text p ws os
       → p .left ≡ 0 → p .stopped ≡ true → (more : List ℕ) → (last ≡ true → more ≡ []) → text ≡ output (bs ++ more)
+  -- what is held is what the bytes that were taken leave of the start; also where the program has stopped
+  pub held : {bs : List ℕ} {last : Bool} {unread text : List ℕ} {p : Progress} {ws os : List ℕ} → Stream bs last unread text p ws os
+      → (taken : List ℕ) × (bs ≡ taken ++ unread) × (stateOf (p .space) ws (p .count) os ≡ leaves start taken)
