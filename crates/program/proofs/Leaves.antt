@@ -8,9 +8,9 @@ use native.Mathlib.Omega.{arith}
 use lib.Dec.{eqb}
 use lib.ListN.{length, take, drop, length-drop}
 use lib.Seq.{length-take-le, drop-at}
-use borrow.Author.Tests.{eqb-true, eqb-false, ne-eqb}
+use borrow.Author.Tests.{eqb-true, eqb-false}
 use Rattle.model.specs.Rows.{choose}
-use Rattle.program.specs.Script.{recordAt, recordSize, State, Step, stepOn, step, stateAfter, leaves}
+use Rattle.program.specs.Script.{recordAt, recordSize, State, stepOn, step, stateAfter, leaves}
 use Rattle.program.specs.declared.ScriptRecord.{ScriptRecord}
 use Rattle.program.specs.declared.ScriptRecord.the-variants.{SetSpace, Bind, LookUp, OtherMark, Cut, End}
 use Rattle.program.proofs.Records.{record-fits, record-alone, where-some}
@@ -36,8 +36,8 @@ after-fuel (suc j) (suc k) st bs h l =
     where-some n st (λ some. after-fuel j k (step st bs .state) (drop n bs) (simp length-drop (omega (arith, some))) (simp length-drop (omega (arith, some))))
 
 -- the first record, and the rest
-leaves-first : (st : State) (bs : List ℕ) → leaves st bs ≡ choose (eqb (recordSize (recordAt bs)) 0) st
-    (leaves (step st bs .state) (drop (recordSize (recordAt bs)) bs))
+leaves-first : (st : State) (bs : List ℕ)
+    → leaves st bs ≡ choose (eqb (recordSize (recordAt bs)) 0) st (leaves (step st bs .state) (drop (recordSize (recordAt bs)) bs))
 unfolding leaves stateAfter recordAt
 leaves-first st [] = refl
 leaves-first st (b ∷ bs) =

@@ -3,7 +3,7 @@
 use mathlib.Core.Path.{_≡_, refl, ap, _∙_}
 use mathlib.Core.Option.{some}
 use mathlib.Core.List.{List, [], _∷_, _++_, append-assoc, append-nil, flatMap}
-use Prim.Native.Nat.{ℕ, suc, _+_, _*_, _≤_}
+use Prim.Native.Nat.{ℕ, suc, _*_}
 use native.Mathlib.Omega.{arith}
 use lib.ListN.{length, take, drop, length-append, length-drop}
 use lib.Seq.{take-at, drop-at}
@@ -13,7 +13,6 @@ use Rattle.program.specs.declared.ScriptRecord.{ScriptRecord}
 use Rattle.program.specs.declared.ScriptRecord.the-variants.{SetSpace, Bind, LookUp, OtherMark, Cut, End}
 use Rattle.model.specs.Rows.{Reply, refused, answered}
 use Rattle.model.specs.Table.{mappings}
-use Rattle.model.specs.Cut.{operations}
 use Rattle.model.specs.Layout.{operationWords, operationIn}
 use Rattle.model.specs.Calls.{bytes, requestOf, lookup}
 use Rattle.model.specs.Exactly.{Each}

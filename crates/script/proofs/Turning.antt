@@ -5,7 +5,7 @@ use mathlib.Core.Logic.{_⊎_, inl, inr, ⊎-elim}
 use mathlib.Core.Bool.{Bool, true, false}
 use mathlib.Core.Option.{Option, some}
 use mathlib.Core.List.{List, [], _++_, append-assoc}
-use Prim.Native.Nat.{ℕ, zero, suc, _+_, _-_, _*_, _≤_, _<_}
+use Prim.Native.Nat.{ℕ, zero, suc, _+_, _-_, _<_}
 use native.Mathlib.Numerals.{add-one}
 use native.Mathlib.Omega.{arith}
 use lib.ListN.{length, drop}
@@ -64,21 +64,25 @@ pub operation-turns : (p : Progress) (os : List ℕ) {out out' : List ℕ} {at e
     (record { progress = record { space = p .space; count = p .count; place = p .place; next = p .next + 1; left = p .left - 1; stopped = p .stopped }; taken = 0; end = end })
     ws os out'
 unfolding toCome
-operation-turns p os {at = at} {end = end} some-left held put ws bs last = let f = following os (p .next) (p .left) some-left held in record {
-  goes = record {
-    text = listedLines (operationAt os (p .next));
-    bytes = put .bytes;
-    behind = put .behind;
-    goes-on = λ more ends. rw (f .lines) (append-assoc (listedLines (operationAt os (p .next))) (pending os (p .next + 1) (p .left - 1)) _);
-    state = λ more. refl;
-    within = omega arith;
-    place = omega arith;
-    held = f .rest;
-  };
-  most = omega (arith, put .behind, put .within);
-  idle = λ e. absurd (omega (arith, put .behind, ap (λ (l : Option Operation). length (listedLines l)) (f .is), operation-some (f .operation)));
-}
+operation-turns p os {at = at} {end = end} some-left held put ws bs last =
+    let f = following os (p .next) (p .left) some-left held in
+    let text : List ℕ = listedLines (operationAt os (p .next)) in
+    record {
+      goes = record {
+        text = text;
+        bytes = put .bytes;
+        behind = put .behind;
+        goes-on = λ more ends. rw (f .lines) (append-assoc text (pending os (p .next + 1) (p .left - 1)) _);
+        state = λ more. refl;
+        within = omega arith;
+        place = omega arith;
+        held = f .rest;
+      };
+      most = omega (arith, put .behind, put .within);
+      idle = λ e. absurd (omega (arith, put .behind, ap (λ (o : Option Operation). length (listedLines o)) (f .is), operation-some (f .operation)));
+    }
 
+-- after a record
 pub none-outstanding : {os : List ℕ} → Outstanding os 0 0
 unfolding Known
 none-outstanding = record { within = omega arith; known = tt }

@@ -82,8 +82,8 @@ pub record Idle (p : Progress) (bs : List ℕ) (last : Bool) : Type 0 where
   pub none-left : p .left ≡ 0
   pub because : (p .stopped ≡ true) ⊎ ((last ≡ false) × ((recordAt bs ≡ Cut) ⊎ (recordAt bs ≡ End)))
 
--- from p, with the unread bytes bs, some text was put at a place of the output, and what it leaves goes on with the rest, whatever bytes come behind;
--- none come where bs are the last. What is held is what the bytes taken leave
+-- from p, with the unread bytes bs, some text was put at a place of the output, and what it leaves goes on with the rest, whatever
+-- bytes come behind; none come where bs are the last. What is held is what the records taken leave, also where the program has stopped
 pub record Goes (p : Progress) (ws os bs : List ℕ) (last : Bool) (out : List ℕ) (at : ℕ) (t : Turned) (ws' os' out' : List ℕ) : Type 0 where
   pub text : List ℕ
   pub bytes : out' ≡ stored out at text
@@ -104,7 +104,8 @@ pub record Turns (p : Progress) (ws os bs : List ℕ) (last : Bool) (out : List 
 -- as many turns as there is room for, from the front of the output on
 pub record Advances (p : Progress) (ws os bs : List ℕ) (last : Bool) (out : List ℕ) (t : Turned) (ws' os' out' : List ℕ) : Type 0 where
   pub goes : Goes p ws os bs last out 0 t ws' os' out'
-  -- the lent words, and the space and the count, are what the records taken leave of them; also where the program has stopped
-  pub words : stateOf (t .progress .space) ws' (t .progress .count) os' ≡ leaves (stateOf (p .space) ws (p .count) os) (take (t .taken) bs)
+  -- the space, the count and the lent words, by the definition
+  pub words : stateOf (t .progress .space) ws' (t .progress .count) os'
+      ≡ leaves (stateOf (p .space) ws (p .count) os) (take (t .taken) bs)
   pub room : t .end ≤ length out
   pub ended : (length out < t .end + 320) ⊎ Idle (t .progress) (drop (t .taken) bs) last

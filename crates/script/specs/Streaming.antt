@@ -29,6 +29,6 @@ pub record Prints : Type 0 where
   -- where the program has stopped and no operation is left, all of it has been printed
   pub over : {bs : List ℕ} {last : Bool} {unread text : List ℕ} {p : Progress} {ws os : List ℕ} → Stream bs last unread text p ws os
       → p .left ≡ 0 → p .stopped ≡ true → (more : List ℕ) → (last ≡ true → more ≡ []) → text ≡ output (bs ++ more)
-  -- what is held is what the bytes that were taken leave of the start; also where the program has stopped
+  -- what is held is what the bytes taken leave of the start, also where the program has stopped
   pub held : {bs : List ℕ} {last : Bool} {unread text : List ℕ} {p : Progress} {ws os : List ℕ} → Stream bs last unread text p ws os
       → (taken : List ℕ) × (bs ≡ taken ++ unread) × (stateOf (p .space) ws (p .count) os ≡ leaves start taken)
