@@ -11,7 +11,6 @@ ghost use mathlib.Core.List.{flatMap};
 ghost use Prim.Native.Nat.{_+_, _-_, _*_, _≤_, _<_};
 ghost use lib.Dec.{leb};
 ghost use lib.ListN.{length};
-ghost use Rattle.model.specs.Rows.{choose};
 ghost use Rattle.model.specs.Rules.{limit, stop};
 ghost use Rattle.model.specs.Cut.{lowerPart, upperPart, mappingOf, keepMark, operationOf};
 ghost use Rattle.model.specs.Table.{mappingFrom};
@@ -150,12 +149,6 @@ fn upper_of(rests: Rests) -> Mapping
     }
 }
 
-fn mark(keep: bool) -> u64
-    ensures { λ n. ⌜ n ≡ choose keep 1 0 ⌝ }
-{
-    if keep { 1 } else { 0 }
-}
-
 // Writes the fourteen words of an operation with these parts from word `at` on.
 fn write_parts(
     operations: &mut [u64],
@@ -199,13 +192,21 @@ fn write_operation(operations: &mut [u64], at: usize, operation: Operation)
             operations,
             at,
             REMAP,
-            mark(keep),
+            rules::mark(keep),
             m,
             lower_of(rests),
             upper_of(rests),
         ),
         Operation::Unmap(keep, m) => {
-            write_parts(operations, at, UNMAP, mark(keep), m, absent(), absent())
+            write_parts(
+                operations,
+                at,
+                UNMAP,
+                rules::mark(keep),
+                m,
+                absent(),
+                absent(),
+            )
         }
     }
 }

@@ -8,7 +8,7 @@ use model::Verdict;
 ghost use mathlib.Core.Path.{_≡_};
 ghost use Prim.Native.Nat.{_+_, min, max};
 ghost use lib.Dec.{leb};
-ghost use Rattle.model.specs.Rows.{all, verdict};
+ghost use Rattle.model.specs.Rows.{all, choose, verdict};
 ghost use Rattle.model.specs.Rules.{aligned, apart, spaceTests, formRows, requestRows, alignmentRow, insideRow, objectRow, offsetRow};
 ghost use Rattle.model.specs.Table.{fitTests};
 ghost use Rattle.model.specs.Calls.{numbered, verdictReply};
@@ -62,6 +62,13 @@ pub fn lesser(a: u64, b: u64) -> u64
     ensures { λ x. ⌜ x ≡ min a b ⌝ }
 {
     if a <= b { a } else { b }
+}
+
+// A keep mark as a word.
+pub fn mark(keep: bool) -> u64
+    ensures { λ n. ⌜ n ≡ choose keep 1 0 ⌝ }
+{
+    if keep { 1 } else { 0 }
 }
 
 // [a, a + n) and [c, c + m) share no byte: one of them ends at or before the greater start.

@@ -9,7 +9,6 @@ ghost use mathlib.Core.Path.{_≡_};
 ghost use mathlib.Core.List.{[], _∷_};
 ghost use Prim.Native.Nat.{_+_, _*_, _≤_};
 ghost use lib.ListN.{length};
-ghost use Rattle.model.specs.Rows.{choose};
 ghost use Rattle.model.specs.Table.{wordsOf};
 ghost use Rattle.program.specs.Text.{decimal, spaced, restLines, operationLines, shownLine};
 ghost use Rattle.program.specs.Script.{lines, responseTold};
@@ -95,19 +94,13 @@ fn put_mapping(out: &mut [u8], at: usize, word: &[u8], m: Mapping) -> usize
     put_line(out, at, word, &[m.address, m.size, m.object, m.offset])
 }
 
-fn mark(keep: bool) -> u64
-    ensures { λ n. ⌜ n ≡ choose keep 1 0 ⌝ }
-{
-    if keep { 1 } else { 0 }
-}
-
 // The same, and the keep mark.
 fn put_keep(out: &mut [u8], at: usize, word: &[u8], keep: bool, m: Mapping) -> usize
     requires { ⌜ at + (length (now word) + 111) ≤ length (now out) ⌝ }
     ensures { λ end. ⌜ Put (now (out .entry)) at (keepOf (now (word .entry)) keep m) (now (out .exit)) end (length (now (word .entry)) + 111) ⌝ }
 {
     let behind = put_phrase(out, at, word, &[m.address, m.size, m.object, m.offset]);
-    put_line(out, behind, b" keep", &[mark(keep)])
+    put_line(out, behind, b" keep", &[rules::mark(keep)])
 }
 
 // A line for each rest.
