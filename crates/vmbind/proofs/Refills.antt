@@ -2,7 +2,7 @@
 -- Assumes nothing.
 use mathlib.Core.Path.{_≡_, refl, ap, _∙_}
 use mathlib.Core.List.{List, _++_}
-use Prim.Native.Nat.{ℕ, _+_, _-_, _≤_}
+use Prim.Native.Nat.{ℕ, _+_, _-_, _≤_, _<_}
 use native.Mathlib.Omega.{arith}
 use lib.ListN.{length, take, drop}
 use lib.Seq.{take-add}
@@ -10,13 +10,16 @@ use borrow.Rule.Slice.PartMut.{midOf, putMid, same-len-mid, take-put}
 use Rattle.words.specs.Words.{moved}
 use Rattle.words.proofs.Moved.{length-part, moved-is}
 use Rattle.words.proofs.Stored.{take-stored-end}
-use Rattle.script.specs.declared.Progress.{Progress}
+use Rattle.vmbind.specs.declared.Run.{Run}
 use Rattle.vmbind.specs.declared.Got.{Got}
-use Rattle.vmbind.specs.Buffers.{bytesIn, isLast, isOver, part, Brings, Refilled}
+use Rattle.vmbind.specs.declared.Got.the-variants.{Bytes}
+use Rattle.vmbind.specs.Buffers.{bytesIn, isLast, endOf, unread, Brings, Refilled}
 
 pub brings : (input : List ℕ) (kept : ℕ) (g : Got) (ys : List ℕ) → kept + bytesIn g ≤ length input → length ys ≡ length (midOf kept (length input - kept) input)
+    → ((n : ℕ) → g ≡ Bytes n → 0 < n)
     → Brings input kept g (putMid kept (length input - kept) input ys)
-brings input kept g ys h l = record {
+brings input kept g ys h l k = record {
+  not-empty = k;
   inside = omega (arith, same-len-mid kept (length input - kept) input ys l);
   same = take-put kept (length input - kept) input ys (omega arith);
 }
@@ -27,19 +30,25 @@ moved-front ws from n h =
     let l : 0 + length run ≡ n = omega (arith, length-part ws from n h) in
     ap (take n) (moved-is ws from 0 n) ∙ (rw l at (take-stored-end ws 0 run (omega arith)))
 
-pub refills : (p : Progress) (input : List ℕ) (from to : ℕ) {n end : ℕ} {kept after : List ℕ} (g : Got) → end ≡ n + bytesIn g → from ≤ to → to ≤ length input → n ≡ to - from
-    → kept ≡ moved input from 0 n → Brings kept n g after
-    → Refilled p (part input from to) (record { progress = p; from = 0; to = end; last = isLast g; over = isOver g }) after
-refills p input from to {n} {end} {kept} {after} g t o i e k b = record {
-  same = refl;
+-- the run as a refill leaves it
+abbrev pub refilled : Run → ℕ → Got → Run
+refilled run to g =
+    record { progress = run .progress; from = 0; to = to; last = isLast g; printed = run .printed; written = run .written; end = endOf g }
+
+pub refills : (run : Run) (input : List ℕ) {n to : ℕ} {kept after : List ℕ} (g : Got) → to ≡ n + bytesIn g → run .from ≤ run .to → run .to ≤ length input
+    → n ≡ run .to - run .from → kept ≡ moved input (run .from) 0 n → Brings kept n g after
+    → Refilled run input (refilled run to g) after
+refills run input {n} {to} {kept} {after} g t o i e k b = record {
+  same = (refl, refl, refl);
   order = omega arith;
   inside = omega (arith, b .inside);
   more = take (bytesIn g) (drop n after);
   got = g;
+  not-empty = b .not-empty;
   brought = (length-part after n (bytesIn g) (b .inside), refl, refl);
   behind =
-      let z : end - 0 ≡ n + bytesIn g = omega arith in
-      let front : take n after ≡ part input from to =
-      b .same ∙ ap (take n) k ∙ moved-front input from n (omega arith) ∙ ap (λ (m : ℕ). take m (drop from input)) e in
+      let z : to - 0 ≡ n + bytesIn g = omega arith in
+      let front : take n after ≡ unread run input =
+      b .same ∙ ap (take n) k ∙ moved-front input (run .from) n (omega arith) ∙ ap (λ (m : ℕ). take m (drop (run .from) input)) e in
       rw z (take-add n (bytesIn g) after ∙ ap (λ (l : List ℕ). l ++ take (bytesIn g) (drop n after)) front);
 }

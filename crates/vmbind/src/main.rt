@@ -6,17 +6,16 @@ use libc::STDOUT_FILENO;
 use script::Progress;
 use script::Turned;
 ghost use mathlib.Core.Path.{_≡_};
-ghost use mathlib.Core.Bool.{true};
 ghost use Prim.Native.Nat.{_+_, _^_, _≤_, _<_};
 ghost use lib.ListN.{length};
+ghost use Rattle.program.specs.Script.{start};
+ghost use Rattle.program.specs.Text.{ascii};
+ghost use Rattle.text.specs.Lines.{Put};
 ghost use Rattle.script.specs.Progress.{Advances};
-ghost use Rattle.vmbind.specs.Buffers.{gotOf, part, unread, Brings, Refilled, Held, Carries};
+ghost use Rattle.vmbind.specs.Buffers.{gotOf, unread, standing, behind, message};
+ghost use Rattle.vmbind.specs.Buffers.{Brings, Refilled, Writes, Held, Carries, Ran};
 
-// The buffers, 57,456 bytes together: a table of 256 mappings, the operations of a request on it, input and output.
-const TABLE_WORDS: usize = 1024;
-
-const OPERATION_WORDS: usize = 3598;
-
+// The input and the output; with the table and the operations of a request on it the buffers are 57,456 bytes together.
 const INPUT_BYTES: usize = 8192;
 
 const OUTPUT_BYTES: usize = 12288;
@@ -24,13 +23,25 @@ const OUTPUT_BYTES: usize = 12288;
 // Byte places below it, with the input behind them, fit 64 bits.
 const MOST_PLACE: u64 = 0x8000_0000_0000_0000;
 
+// A run goes on, or how it ended.
+enum End {
+    Going,
+    Done,
+    ReadFailed,
+    WriteFailed,
+    TooLong,
+}
+
 // Between two reads: the unread bytes stand in the input from `from` up to `to`; no more come if they are the last.
+// The last round printed so many bytes, at the front of the output, and the system took so many of them.
 struct Run {
     progress: Progress,
     from: usize,
     to: usize,
     last: bool,
-    over: bool,
+    printed: usize,
+    written: usize,
+    end: End,
 }
 
 // What a read brought.
@@ -40,8 +51,10 @@ enum Got {
     Failure,
 }
 
-fn fail(message: &[u8]) {
-    io::write_all(STDERR_FILENO, message);
+// How many bytes the system took, and whether these are all.
+struct Wrote {
+    bytes: usize,
+    all: bool,
 }
 
 // What a read's answer says, where there was room for some bytes: a negative one is a failure, and none is the end.
@@ -68,36 +81,40 @@ fn read_behind(input: &mut [u8], kept: usize) -> Got
 }
 
 // Keeps the unread bytes, and reads more behind them.
-fn refill(input: &mut [u8], progress: Progress, from: usize, to: usize) -> Run
-    requires { ⌜ (from ≤ to) × (to < from + length (now input)) × (to ≤ length (now input)) ⌝ }
-    ensures { λ r. ⌜ Refilled progress (part (now (input .entry)) from to) r (now (input .exit)) ⌝ }
+fn refill(input: &mut [u8], run: Run) -> Run
+    requires { ⌜ (run .from ≤ run .to) × (run .to < run .from + length (now input)) × (run .to ≤ length (now input)) ⌝ }
+    ensures { λ r. ⌜ Refilled run (now (input .entry)) r (now (input .exit)) ⌝ }
 {
-    let kept = script::keep_unread(input, from, to);
+    let progress = run.progress;
+    let kept = script::keep_unread(input, run.from, run.to);
     match read_behind(input, kept) {
         Got::Bytes(n) => Run {
             progress,
             from: 0,
             to: kept + n,
             last: false,
-            over: false,
+            printed: run.printed,
+            written: run.written,
+            end: End::Going,
         },
         Got::Nothing => Run {
             progress,
             from: 0,
             to: kept,
             last: true,
-            over: false,
+            printed: run.printed,
+            written: run.written,
+            end: End::Going,
         },
-        Got::Failure => {
-            fail(b"vmbind: cannot read standard input\n");
-            Run {
-                progress,
-                from: 0,
-                to: kept,
-                last: false,
-                over: true,
-            }
-        }
+        Got::Failure => Run {
+            progress,
+            from: 0,
+            to: kept,
+            last: false,
+            printed: run.printed,
+            written: run.written,
+            end: End::ReadFailed,
+        },
     }
 }
 
@@ -119,54 +136,56 @@ fn print(
     script::advance(progress, table, operations, &input[from..to], last, output)
 }
 
-fn write_out(output: &[u8], end: usize) -> bool
-    requires { ⌜ end ≤ length (now output) ⌝ }
+// Hands over bytes, of which there are some; the system may take fewer.
+fn write_some(text: &[u8]) -> usize
+    requires { ⌜ 0 < length (now text) ⌝ }
+    ensures { λ n. ⌜ n ≤ length (now (text .entry)) ⌝ }
 {
-    io::write_all(STDOUT_FILENO, &output[..end])
+    io::count(libc::write(STDOUT_FILENO, text), text)
 }
 
-// Prints what the bytes at hand give, writes it, and reads more where the program waits for them.
-fn round(
-    table: &mut [u64; TABLE_WORDS],
-    operations: &mut [u64; OPERATION_WORDS],
-    input: &mut [u8; INPUT_BYTES],
-    output: &mut [u8; OUTPUT_BYTES],
-    run: Run,
-) -> Run
-    requires { ⌜ Held run (now operations) (length (now input)) ⌝ }
-    ensures { λ r. ⌜ Carries run (now (table .entry)) (now (operations .entry)) (now (input .entry)) r (now (table .exit)) (now (operations .exit)) (now (input .exit)) ⌝ }
+// Writes the output up to `end`. A write that takes nothing has failed.
+fn write_out(output: &[u8], end: usize) -> Wrote
+    requires { ⌜ end ≤ length (now output) ⌝ }
+    ensures { λ w. ⌜ Writes end w ⌝ }
 {
-    if MOST_PLACE <= run.progress.place {
-        fail(b"vmbind: the script is too long\n");
-        return ended(run);
+    let mut at: usize = 0;
+    while at < end {
+        let n = write_some(&output[at..end]);
+        if n == 0 {
+            return Wrote {
+                bytes: at,
+                all: false,
+            };
+        }
+        at += n;
     }
-    let t = print(run, table, operations, input, output);
-    let end = t.end;
+    Wrote {
+        bytes: at,
+        all: true,
+    }
+}
+
+// The run behind the bytes that were taken.
+fn turned(run: Run, t: Turned) -> Run
+    requires { ⌜ run .from + t .taken < 2 ^ 64 ⌝ }
+    ensures { λ r. ⌜ r ≡ behind run t ⌝ }
+{
     let progress = t.progress;
-    let from = run.from + t.taken;
-    let next = Run {
+    Run {
         progress,
-        from,
+        from: run.from + t.taken,
         to: run.to,
         last: run.last,
-        over: false,
-    };
-    if !write_out(output, end) {
-        fail(b"vmbind: cannot write standard output\n");
-        return ended(next);
+        printed: 0,
+        written: 0,
+        end: End::Going,
     }
-    if OUTPUT_BYTES < end + text::MOST_OPERATION {
-        return next;
-    }
-    if progress.stopped {
-        return ended(next);
-    }
-    refill(input, progress, from, next.to)
 }
 
-// The program is over.
-fn ended(run: Run) -> Run
-    ensures { λ r. ⌜ r ≡ record { progress = run .progress; from = run .from; to = run .to; last = run .last; over = true } ⌝ }
+// The run as a round leaves it, which printed and wrote so many bytes.
+fn stands(run: Run, printed: usize, written: usize, end: End) -> Run
+    ensures { λ r. ⌜ r ≡ standing run printed written end ⌝ }
 {
     let progress = run.progress;
     Run {
@@ -174,29 +193,93 @@ fn ended(run: Run) -> Run
         from: run.from,
         to: run.to,
         last: run.last,
-        over: true,
+        printed,
+        written,
+        end,
     }
 }
 
-fn main() {
-    let mut table = [0u64; TABLE_WORDS];
-    let mut operations = [0u64; OPERATION_WORDS];
-    let mut input = [0u8; INPUT_BYTES];
-    let mut output = [0u8; OUTPUT_BYTES];
+// Prints what the bytes at hand give, writes it, and reads more where the program waits for them.
+fn round(
+    table: &mut [u64],
+    operations: &mut [u64],
+    input: &mut [u8; INPUT_BYTES],
+    output: &mut [u8; OUTPUT_BYTES],
+    run: Run,
+) -> Run
+    requires { ⌜ Held run (now operations) (length (now input)) ⌝ }
+    ensures { λ r. ⌜ Carries run (now (table .entry)) (now (operations .entry)) (now (input .entry))
+        r (now (table .exit)) (now (operations .exit)) (now (input .exit)) (now (output .exit)) ⌝ }
+{
+    if MOST_PLACE <= run.progress.place {
+        return stands(run, 0, 0, End::TooLong);
+    }
+    let t = print(run, table, operations, input, output);
+    let end = t.end;
+    let next = turned(run, t);
+    let wrote = write_out(output, end);
+    if !wrote.all {
+        return stands(next, end, wrote.bytes, End::WriteFailed);
+    }
+    if OUTPUT_BYTES < end + text::MOST_OPERATION {
+        return stands(next, end, wrote.bytes, End::Going);
+    }
+    if next.progress.stopped {
+        return stands(next, end, wrote.bytes, End::Done);
+    }
+    refill(input, stands(next, end, wrote.bytes, End::Going))
+}
+
+// Rounds, until one ends the run. No script has as many as are counted.
+fn follow(
+    table: &mut [u64],
+    operations: &mut [u64],
+    input: &mut [u8; INPUT_BYTES],
+    output: &mut [u8; OUTPUT_BYTES],
+) -> End
+    requires { ⌜ (now table ≡ start .table .words) × (now operations ≡ start .operations) ⌝ }
+    ensures { λ e. ⌜ Ran e (now (table .exit)) (now (operations .exit)) (now (input .exit)) ⌝ }
+{
     let mut run = Run {
         progress: script::start(),
         from: 0,
         to: 0,
         last: false,
-        over: false,
+        printed: 0,
+        written: 0,
+        end: End::Going,
     };
     let mut rounds = u64::MAX;
     while 0 < rounds {
-        run = round(&mut table, &mut operations, &mut input, &mut output, run);
-        if run.over {
-            return;
-        }
+        run = round(table, operations, input, output, run);
+        let end = run.end;
+        let End::Going = end else {
+            return end;
+        };
         rounds -= 1;
     }
-    fail(b"vmbind: the script is too long\n");
+    End::TooLong
+}
+
+// Why a run ended before the script did, at the front of a buffer.
+fn put_message(out: &mut [u8; OUTPUT_BYTES], end: End) -> usize
+    ensures { λ n. ⌜ Put (now (out .entry)) 0 (ascii (message end)) (now (out .exit)) n 64 ⌝ }
+{
+    match end {
+        End::Going => 0,
+        End::Done => 0,
+        End::ReadFailed => text::put_bytes(out, 0, b"vmbind: cannot read standard input\n"),
+        End::WriteFailed => text::put_bytes(out, 0, b"vmbind: cannot write standard output\n"),
+        End::TooLong => text::put_bytes(out, 0, b"vmbind: the script is too long\n"),
+    }
+}
+
+fn main() {
+    let mut table = [0u64; 1024];
+    let mut operations = [0u64; 3598];
+    let mut input = [0u8; INPUT_BYTES];
+    let mut output = [0u8; OUTPUT_BYTES];
+    let end = follow(&mut table, &mut operations, &mut input, &mut output);
+    let n = put_message(&mut output, end);
+    io::write_all(STDERR_FILENO, &output[..n]);
 }

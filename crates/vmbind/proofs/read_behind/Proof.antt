@@ -6,7 +6,7 @@ use lib.ListN.{length}
 use mir.Syntax.{w64}
 use mir.Val.{toZ, ofZ}
 use borrow.Rule.Slice.PartMut.{putMid, same-len-mid}
-use Rattle.vmbind.proofs.Answers.{brought-most}
+use Rattle.vmbind.proofs.Answers.{brought-most, brought-any}
 use Rattle.vmbind.proofs.Refills.{brings}
 use borrow.Author.Needs.{needs}
 use Rattle.vmbind.proofs.read_behind.Statement.{statement}
@@ -47,6 +47,7 @@ returns c =
     let bs = putMid (s .args .kept) (length input - s .args .kept) input (r .read .last .1 .0) in
     let l = same-len-mid (s .args .kept) (length input - s .args .kept) input (r .read .last .1 .0) (r .read .kept .1 .0) in
     brings input (s .args .kept) (c .brought .result) (r .read .last .1 .0) (omega (arith, s .pre, l, brought-most (toZ w64 (ofZ w64 (r .read .result))) bs (s .args .kept) (c .brought .ensures))) (r .read .kept .1 .0)
+    (brought-any (toZ w64 (ofZ w64 (r .read .result))) _ (c .brought .ensures))
 
 pub read-behind-spec : {M : Type 1} → statement M
 read-behind-spec =

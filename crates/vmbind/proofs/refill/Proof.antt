@@ -16,20 +16,15 @@ read-behind-requires c κs = search needs
 enum-known-n : tie.Need-enum-known-n
 enum-known-n c = search needs
 
-add-t14 : tie.Need-add-t14
-add-t14 c = omega (arith, rw (c .before .n .given .1) at (c .before .before .before .before .before .read-behind .ensures .inside))
+add-t12 : tie.Need-add-t12
+add-t12 c =
+    omega (arith, rw (c .before .n .given .1) at (c .before .before .before .before .before .read-behind .ensures .inside))
 
 enum-told : tie.Need-enum-told
 enum-told c = search needs
 
 enum-told-2 : tie.Need-enum-told-2
 enum-told-2 c = search needs
-
-slice-aggregate-fail : tie.Need-slice-aggregate-fail
-slice-aggregate-fail c = search needs
-
-fail-requires : tie.Need-fail-requires
-fail-requires c κs = search needs
 
 same-length : tie.Need-same-length
 same-length c = search needs
@@ -38,9 +33,9 @@ returns : tie.Need-returns
 returns c =
     let b = c .before .before .before .before .before in
     let k = b .before .before .before .before in
-    let s = k .before .before .before in
+    let s = k .before .before .before .before in
     let a = s .args in
-    refills (a .progress) (a .input .now) (a .from) (a .to) (Bytes (c .before .n .given .0 .0)) (omega arith) (s .pre .0) (s .pre .2) (k .keep-unread .ensures .0) (k .keep-unread .ensures .1) (rw (c .before .n .given .1) at (b .read-behind .ensures))
+    refills (a .run) (a .input .now) (Bytes (c .before .n .given .0 .0)) (omega arith) (s .pre .0) (s .pre .2) (k .keep-unread .ensures .0) (k .keep-unread .ensures .1) (rw (c .before .n .given .1) at (b .read-behind .ensures))
 
 same-length-2 : tie.Need-same-length-2
 same-length-2 c = search needs
@@ -49,20 +44,20 @@ returns-2 : tie.Need-returns-2
 returns-2 c =
     let b = c .before .before .before .before in
     let k = b .before .before .before .before in
-    let s = k .before .before .before in
+    let s = k .before .before .before .before in
     let a = s .args in
-    refills (a .progress) (a .input .now) (a .from) (a .to) Nothing (omega arith) (s .pre .0) (s .pre .2) (k .keep-unread .ensures .0) (k .keep-unread .ensures .1) (rw (c .enum-told .given .1) at (b .read-behind .ensures))
+    refills (a .run) (a .input .now) Nothing (omega arith) (s .pre .0) (s .pre .2) (k .keep-unread .ensures .0) (k .keep-unread .ensures .1) (rw (c .enum-told .given .1) at (b .read-behind .ensures))
 
 same-length-3 : tie.Need-same-length-3
 same-length-3 c = search needs
 
 returns-3 : tie.Need-returns-3
 returns-3 c =
-    let b = c .before .before .before .before .before .before in
+    let b = c .before .before .before .before in
     let k = b .before .before .before .before in
-    let s = k .before .before .before in
+    let s = k .before .before .before .before in
     let a = s .args in
-    refills (a .progress) (a .input .now) (a .from) (a .to) Failure (omega arith) (s .pre .0) (s .pre .2) (k .keep-unread .ensures .0) (k .keep-unread .ensures .1) (rw (c .before .before .enum-told2 .given .1) at (b .read-behind .ensures))
+    refills (a .run) (a .input .now) Failure (omega arith) (s .pre .0) (s .pre .2) (k .keep-unread .ensures .0) (k .keep-unread .ensures .1) (rw (c .enum-told2 .given .1) at (b .read-behind .ensures))
 
 pub refill-spec : {M : Type 1} → statement M
 refill-spec =
@@ -71,11 +66,9 @@ refill-spec =
     keep-unread-requires
     read-behind-requires
     enum-known-n
-    add-t14
+    add-t12
     enum-told
     enum-told-2
-    slice-aggregate-fail
-    fail-requires
     same-length
     returns
     same-length-2

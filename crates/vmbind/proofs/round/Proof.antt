@@ -1,106 +1,150 @@
 -- `vmbind::round` meets its contract.
 -- Assumes nothing.
-use mathlib.Core.Bool.{true, false}
 use native.Mathlib.Omega.{arith}
-use Rattle.vmbind.proofs.Rounds.{carries-same, taken-within, carries-on, few-unread, carries-refilled}
+use borrow.Author.Tests.{not-true, not-false}
+use Rattle.vmbind.proofs.Rounds.{too-long, taken-within, carries-failed, carries-full, carries-done, few-unread, carries-refilled}
 use borrow.Author.Needs.{needs}
 use Rattle.vmbind.proofs.round.Statement.{statement}
 use Rattle.vmbind.proofs.round.Tie as tie
 
-slice-aggregate-fail : tie.Need-slice-aggregate-fail
-slice-aggregate-fail c = search needs
-
-fail-requires : tie.Need-fail-requires
-fail-requires c κs = search needs
-
-ended-requires : tie.Need-ended-requires
-ended-requires c κs = search needs
+stands-requires : tie.Need-stands-requires
+stands-requires c κs = search needs
 
 returns : tie.Need-returns
 returns c =
     let s = c .before .before .before .before .before in
     let a = s .args in
-    rw (c .ended .ensures) (carries-same (a .run) (a .table .now) (a .operations .now) (a .input .now) true (s .pre))
+    rw (c .stands .ensures) (too-long (a .run) (a .table .now) (a .operations .now) (a .input .now) (a .output .now) (s .pre) (c .before .if1 .taken))
 
 print-requires : tie.Need-print-requires
 print-requires c κs = search needs
 
-add-from : tie.Need-add-from
-add-from c =
-    let k = c .before .before .before in
-    let s = k .before .before .before .before .before .before .before .before in
+turned-requires : tie.Need-turned-requires
+turned-requires c κs =
+    let k = c .before .before .before .before in
+    let s = k .before .before .before .before .before .before .before .before .before .before in
     omega (arith, taken-within (s .args .run) (s .args .input .now) (s .pre) (k .print .ensures), s .pre .inside)
 
 write-out-requires : tie.Need-write-out-requires
-write-out-requires c κs =
-    let k = c .before .before .before .before .before in
-    omega (arith, k .print .ensures .room, k .print .kept .1 .1 .1 .1 .0)
+write-out-requires c κs = search needs
 
-slice-aggregate-fail-2 : tie.Need-slice-aggregate-fail-2
-slice-aggregate-fail-2 c = search needs
+stands-requires-2 : tie.Need-stands-requires-2
+stands-requires-2 c κs = search needs
 
-fail-requires-2 : tie.Need-fail-requires-2
-fail-requires-2 c κs = search needs
+same-length : tie.Need-same-length
+same-length c = search needs
 
-ended-requires-2 : tie.Need-ended-requires-2
-ended-requires-2 c κs = search needs
+same-length-2 : tie.Need-same-length-2
+same-length-2 c = search needs
 
 returns-2 : tie.Need-returns-2
 returns-2 c =
-    let k = c .before .before .before .before .before .before .before .before .before .before in
-    let s = k .before .before .before .before .before .before .before .before in
-    rw (c .ended2 .ensures) (carries-on (s .args .run) (s .args .input .now) (s .pre) (k .print .ensures) true)
+    let w = c .before .before .before in
+    let t = w .before .before .before in
+    let k = t .before .before .before .before .before in
+    let s = k .before .before .before .before .before .before .before .before .before .before in
+    let short = w .write-out .ensures .short (not-true _ (c .before .if2 .taken)) in
+    rw (c .stands2 .ensures, t .turned .ensures)
+    (carries-failed (s .args .run) (s .args .input .now) (s .pre) (k .print .ensures) (w .write-out .result .bytes) short)
 
 add-if3 : tie.Need-add-if3
-add-if3 c =
-    let k = c .before .before .before .before .before .before .before in
-    omega (arith, k .print .ensures .room)
+add-if3 c = search needs
+
+stands-requires-3 : tie.Need-stands-requires-3
+stands-requires-3 c κs = search needs
+
+same-length-3 : tie.Need-same-length-3
+same-length-3 c = search needs
+
+same-length-4 : tie.Need-same-length-4
+same-length-4 c = search needs
 
 returns-3 : tie.Need-returns-3
 returns-3 c =
-    let k = c .before .before .before .before .before .before .before .before in
-    let s = k .before .before .before .before .before .before .before .before in
-    carries-on (s .args .run) (s .args .input .now) (s .pre) (k .print .ensures) false
+    let w = c .before .before .before .before in
+    let t = w .before .before .before in
+    let k = t .before .before .before .before .before in
+    let s = k .before .before .before .before .before .before .before .before .before .before in
+    let whole = w .write-out .ensures .whole (not-false _ (c .before .before .if2 .left)) in
+    rw (c .stands3 .ensures, t .turned .ensures)
+    (carries-full (s .args .run) (s .args .input .now) (s .pre) (k .print .ensures) (w .write-out .result .bytes) whole (omega (arith, c .before .if3 .taken)))
 
-ended-requires-3 : tie.Need-ended-requires-3
-ended-requires-3 c κs = search needs
+stands-requires-4 : tie.Need-stands-requires-4
+stands-requires-4 c κs = search needs
+
+same-length-5 : tie.Need-same-length-5
+same-length-5 c = search needs
+
+same-length-6 : tie.Need-same-length-6
+same-length-6 c = search needs
 
 returns-4 : tie.Need-returns-4
 returns-4 c =
-    let k = c .before .before .before .before .before .before .before .before .before .before in
-    let s = k .before .before .before .before .before .before .before .before in
-    rw (c .ended3 .ensures) (carries-on (s .args .run) (s .args .input .now) (s .pre) (k .print .ensures) true)
+    let w = c .before .before .before .before .before in
+    let t = w .before .before .before in
+    let k = t .before .before .before .before .before in
+    let s = k .before .before .before .before .before .before .before .before .before .before in
+    let whole = w .write-out .ensures .whole (not-false _ (c .before .before .before .if2 .left)) in
+    let stopped = rw (t .turned .ensures) at (c .before .if4 .taken) in
+    rw (c .stands4 .ensures, t .turned .ensures)
+    (carries-done (s .args .run) (s .args .input .now) (s .pre) (k .print .ensures) (omega (arith, c .before .before .if3 .left)) (w .write-out .result .bytes) whole stopped)
+
+stands-requires-5 : tie.Need-stands-requires-5
+stands-requires-5 c κs = search needs
 
 refill-requires : tie.Need-refill-requires
 refill-requires c κs =
-    let k = c .before .before .before .before .before .before .before .before .before .before in
-    let s = k .before .before .before .before .before .before .before .before in
-    (taken-within (s .args .run) (s .args .input .now) (s .pre) (k .print .ensures), omega (arith, few-unread (s .args .run) (s .args .input .now) (s .pre) (k .print .ensures) (omega (arith, c .before .before .if3 .left)) (c .before .if4 .left)), omega (arith, s .pre .inside))
+    let w = c .before .before .before .before .before .before in
+    let t = w .before .before .before in
+    let k = t .before .before .before .before .before in
+    let s = k .before .before .before .before .before .before .before .before .before .before in
+    let going = rw (t .turned .ensures) at (c .before .before .if4 .left) in
+    let few = few-unread (s .args .run) (s .args .input .now) (s .pre) (k .print .ensures) (omega (arith, c .before .before .before .if3 .left)) going in
+    rw (c .stands5 .ensures, t .turned .ensures) (taken-within (s .args .run) (s .args .input .now) (s .pre) (k .print .ensures), omega (arith, few), s .pre .inside)
+
+same-length-7 : tie.Need-same-length-7
+same-length-7 c =
+    omega (arith, c .before .before .before .before .before .before .before .before .before .before .before .before .before .before .before .print .kept .1 .0)
+
+same-length-8 : tie.Need-same-length-8
+same-length-8 c =
+    omega (arith, c .before .before .before .before .before .before .before .before .before .before .before .before .before .before .before .print .kept .1 .1 .0)
 
 returns-5 : tie.Need-returns-5
 returns-5 c =
-    let k = c .before .before .before .before .before .before .before .before .before .before .before in
-    let s = k .before .before .before .before .before .before .before .before in
-    carries-refilled (s .args .run) (s .args .input .now) (s .pre) (k .print .ensures) (omega (arith, c .before .before .before .if3 .left)) (c .before .before .if4 .left) (c .refill .ensures)
+    let w = c .before .before .before .before .before .before .before in
+    let t = w .before .before .before in
+    let k = t .before .before .before .before .before in
+    let s = k .before .before .before .before .before .before .before .before .before .before in
+    let whole = w .write-out .ensures .whole (not-false _ (c .before .before .before .before .before .if2 .left)) in
+    let going = rw (t .turned .ensures) at (c .before .before .before .if4 .left) in
+    let filled = rw (c .before .stands5 .ensures, t .turned .ensures) at (c .refill .ensures) in
+    carries-refilled (s .args .run) (s .args .input .now) (s .pre) (k .print .ensures) (omega (arith, c .before .before .before .before .if3 .left)) going (w .write-out .result .bytes) whole filled
 
 pub round-spec : {M : Type 1} → statement M
 round-spec =
     tie.close
     (tie.spec
-    slice-aggregate-fail
-    fail-requires
-    ended-requires
+    stands-requires
     returns
     print-requires
-    add-from
+    turned-requires
     write-out-requires
-    slice-aggregate-fail-2
-    fail-requires-2
-    ended-requires-2
+    stands-requires-2
+    same-length
+    same-length-2
     returns-2
     add-if3
+    stands-requires-3
+    same-length-3
+    same-length-4
     returns-3
-    ended-requires-3
+    stands-requires-4
+    same-length-5
+    same-length-6
     returns-4
+    stands-requires-5
     refill-requires
+    same-length-7
+    same-length-8
     returns-5)
