@@ -15,11 +15,14 @@ use Rattle.model.specs.Rows.{choose}
 use Rattle.model.specs.Rules.{stop}
 use Rattle.model.specs.Table.{mappingFrom}
 use Rattle.model.specs.Cut.{lowerPart, upperPart, new, hits, keepMark, operationFor, operationOf, operations, old, rests}
-use Rattle.model.specs.Layout.{isAbsent, restsBy, operationBy, restsIn, operationIn, operationWords}
+use Rattle.model.specs.Layout.{isAbsent, restsBy, operationBy, operationIn, operationWords, listedOperation}
+use Rattle.model.specs.declared.Listed.{Listed}
+use Rattle.model.specs.declared.Listed.the-variants.{Known, Unknown}
 use Rattle.model.specs.Exactly.{Each, _∈_}
 use Rattle.model.specs.Grants.{restLaid, OperationLayout, SameWords, Says, OperationReading}
 use Rattle.model.proofs.Tests.{tests, all-facts, all-true, all-false, not-facts}
 use Rattle.model.proofs.Actions.{each-map, each-append}
+use Rattle.model.proofs.Pinned.{back-pins}
 
 pub operation-layout : OperationLayout
 operation-layout (Map m) = refl
@@ -237,4 +240,16 @@ own-operations r ms = each-append Own (map (operationOf r) (hits r ms)) (map Map
     news (n ∷ ns) = (says-read (operationWords (Map n)) (Map n) (own-says (Map n) tt), news ns)
 
 pub operation-reading : OperationReading
-operation-reading = record { exactly = λ ws o. (read-says ws o, says-read ws o); own = own-operations }
+operation-reading = record {
+  exactly = λ ws o. (read-says ws o, says-read ws o);
+  own = own-operations;
+  pinned = back-pins listedOperation listed listed-back;
+}
+  where
+    listed : Option Operation → Listed
+    listed none = Unknown
+    listed (some o) = Known o
+
+    listed-back : (l : Listed) → listed (listedOperation l) ≡ l
+    listed-back (Known o) = refl
+    listed-back Unknown = refl

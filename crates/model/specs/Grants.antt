@@ -1,8 +1,8 @@
 -- What a grant does: demand 2 in terms of the public calls, and the operations as a driver takes them.
 use Rattle.model.specs.Prelude.{_≡_, _⊎_, _↔_, Bool, Option, none, some, Option·map, Option·bind, List, [], _∷_, _++_, map, flatMap, ℕ, _+_, _-_, _*_, _≤_, _<_, leb, ltb, eqb, length, getD, drop, replicate, Space, Mapping, Request, Rests, Lower, Upper, Both, Operation, Map, Remap, Unmap, Nothing, Object, Grant}
 use Rattle.model.specs.Calls.{all, choose, answered, end, stop, Table, mappings, operations, restsOf, old, rests, operationWords, translate, Asking, asked, bind, tableAfter, lookup}
-use Rattle.model.specs.Layout.{operationIn}
-use Rattle.model.specs.Exactly.{Each, _∈_, ShareByte, Ascends, TableRules}
+use Rattle.model.specs.Layout.{operationIn, listedOperation}
+use Rattle.model.specs.Exactly.{Each, _∈_, ShareByte, Ascends, TableRules, Pins}
 
 -- u is what the granted request r leaves of t: what byte addresses show; a valid table, zeros behind it; look-ups in it
 -- are answered
@@ -130,3 +130,5 @@ pub record Says (ws : List ℕ) (o : Operation) : Type 0 where
 pub record OperationReading : Type 0 where
   pub exactly : (ws : List ℕ) (o : Operation) → (operationIn ws ≡ some o) ↔ Says ws o
   pub own : (r : Request) (ms : List Mapping) → Each (λ o. operationIn (operationWords o) ≡ some o) (operations r ms)
+  -- and no two values of the answer enum read alike
+  pub pinned : Pins listedOperation
