@@ -8,7 +8,7 @@ use Rattle.model.specs.Prelude.{Space, Request}
 use Rattle.model.specs.Rows.{Row, Reply, refused}
 use Rattle.model.specs.Rules.{spaceTests, spaceRow, opRow, flagsRow, alignmentRow, insideRow, reservationRow, objectRow, offsetRow, formRows, requestRows}
 use Rattle.model.specs.Table.{Table, mappings, lengthRow, operationsRow, countRow, mappingsRow, contentRows, tableRows}
-use Rattle.model.specs.Exactly.{Each, RefusalTable, formLines, requestLines, contentLines, tableLines, operationsLine, refusal, TableRules}
+use Rattle.model.specs.Exactly.{Each, RefusalTable, formLines, requestLines, contentLines, tableLines, operationsLine, TableRules}
 use Rattle.model.proofs.Tests.{tests, Alls}
 use Rattle.model.proofs.Actions.{each-append}
 use Rattle.model.proofs.Rows.{Passed, passed-split, passed-join, Match}

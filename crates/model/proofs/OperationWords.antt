@@ -4,21 +4,21 @@ use mathlib.Core.Path.{_≡_, refl, sym, ap, ap₂, subst, _∙_}
 use mathlib.Core.Logic.{_↔_}
 use mathlib.Core.Bool.{Bool, true, false}
 use mathlib.Core.Option.{Option, none, some, Option·some-injective}
-use mathlib.Core.List.{List, [], _∷_, _++_, map, List·Memᴰ·head, List·Memᴰ·tail, List·Memᴰ·not-nil}
+use mathlib.Core.List.{List, [], _∷_, map, List·Memᴰ·head, List·Memᴰ·not-nil}
 use Prim.Native.Nat.{ℕ, zero, suc, _<_}
 use native.Mathlib.Omega.{arith}
 use lib.Dec.{eqb}
 use lib.ListN.{getD}
 use borrow.Author.Tests.{eqb-true, eqb-false, eq-eqb, ne-eqb}
-use Rattle.model.specs.Prelude.{Mapping, Request, Rests, Lower, Upper, Both, Operation, Map, Remap, Unmap}
+use Rattle.model.specs.Prelude.{Mapping, Request, Lower, Upper, Both, Operation, Map, Remap, Unmap}
 use Rattle.model.specs.Rows.{choose}
 use Rattle.model.specs.Rules.{stop}
 use Rattle.model.specs.Table.{mappingFrom}
-use Rattle.model.specs.Cut.{lowerPart, upperPart, new, hits, keepMark, operationFor, operationOf, operations, old, rests}
+use Rattle.model.specs.Cut.{lowerPart, upperPart, new, hits, operationFor, operationOf, operations, rests}
 use Rattle.model.specs.Layout.{isAbsent, restsBy, operationBy, operationIn, operationWords, listedOperation}
 use Rattle.model.specs.declared.Listed.{Listed}
 use Rattle.model.specs.declared.Listed.the-variants.{Known, Unknown}
-use Rattle.model.specs.Exactly.{Each, _∈_}
+use Rattle.model.specs.Exactly.{Each}
 use Rattle.model.specs.Grants.{restLaid, OperationLayout, SameWords, Says, OperationReading}
 use Rattle.model.proofs.Tests.{tests, all-facts, all-true, all-false, not-facts}
 use Rattle.model.proofs.Actions.{each-map, each-append}

@@ -4,13 +4,13 @@
 use mathlib.Core.Path.{_≡_, refl, sym, subst}
 use mathlib.Core.Logic.{_⊎_, inl, inr, ⊎-elim}
 use mathlib.Core.Bool.{Bool, true, false}
-use mathlib.Core.List.{List, [], _∷_, _++_, List·Memᴰ·head, List·Memᴰ·tail}
+use mathlib.Core.List.{List, [], _∷_, List·Memᴰ·head, List·Memᴰ·tail}
 use Prim.Native.Nat.{ℕ, _≤_}
 use lib.Dec.{T, eqb}
 use lib.ListN.{length, length-replicate}
 use borrow.Author.Tests.{eqb-true}
 use Rattle.program.specs.Prelude.{Space, Request, Grant}
-use Rattle.model.specs.Rows.{all, choose, Row, Reply, refused, answered, decide}
+use Rattle.model.specs.Rows.{choose, Row, Reply, refused, answered}
 use Rattle.model.specs.Rules.{spaceRow, formRows, requestRows}
 use Rattle.model.specs.Table.{Table, capacity, mappingsIn, badPlace, lengthRow, operationsRow, countRow, mappingsRow, tableRows}
 use Rattle.model.specs.Calls.{requestOf, bytes, roomRow, bindRows, outcomeFor, countAfter, tableAfter, bind, lookup}

@@ -1,7 +1,6 @@
 -- Mappings place by place, as a loop over the words meets them.
 -- Assumes nothing.
 use mathlib.Core.Path.{_≡_, refl, sym, ap, subst, _∙_}
-use mathlib.Core.Bool.{true, false}
 use mathlib.Core.List.{List, [], _∷_}
 use Prim.Native.Nat.{ℕ, zero, suc, _+_, _*_, _≤_, _<_}
 use native.Mathlib.Omega.{arith}
@@ -10,9 +9,8 @@ use lib.ListN.{length, getD, drop}
 use lib.Seq.{drop-cons, drop-length, getD-drop}
 use Rattle.model.specs.declared.Mapping.{Mapping}
 use Rattle.model.specs.declared.Space.{Space}
-use Rattle.model.specs.Rows.{all, choose}
 use Rattle.model.specs.Rules.{limit, end}
-use Rattle.model.specs.Table.{mappingsIn, fitTests, badPlace}
+use Rattle.model.specs.Table.{mappingsIn}
 use Rattle.model.proofs.Store.{length-mappings}
 use Rattle.model.proofs.Chain.{Fit, Chain}
 use Rattle.model.proofs.Table.{top, good-chain}

@@ -8,9 +8,9 @@ use lib.Dec.{ltb}
 use lib.ListN.{length, getD, drop}
 use Rattle.model.specs.declared.Mapping.{Mapping}
 use Rattle.model.specs.declared.Space.{Space}
-use Rattle.model.specs.Rows.{choose, Row}
+use Rattle.model.specs.Rows.{choose}
 use Rattle.model.specs.Rules.{limit, end}
-use Rattle.model.specs.Table.{Table, mappingsIn, badPlace, lengthRow, contentRows}
+use Rattle.model.specs.Table.{Table, mappingsIn, badPlace}
 
 -- a table in a lent slice of words
 abbrev pub lent : List ℕ → ℕ → Table

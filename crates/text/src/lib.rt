@@ -5,7 +5,6 @@ use model::Operation;
 use model::Rests;
 use model::Shown;
 use program::Response;
-ghost use mathlib.Core.Path.{_≡_};
 ghost use mathlib.Core.List.{[], _∷_};
 ghost use Prim.Native.Nat.{_+_, _*_, _≤_};
 ghost use lib.ListN.{length};
