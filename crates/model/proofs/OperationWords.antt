@@ -19,7 +19,7 @@ use Rattle.model.specs.Layout.{isAbsent, restsBy, operationBy, operation
 use Rattle.model.specs.declared.Listed.{Listed}
 use Rattle.model.specs.declared.Listed.the-variants.{Known, Unknown}
 use Rattle.model.specs.Exactly.{Each}
-use Rattle.model.specs.Grants.{restLaid, OperationLayout, SameWords, Says, OperationReading}
+use Rattle.model.specs.Grants.{restLaid, OperationLayout, SameWords, Spells, OperationReading}
 use Rattle.model.proofs.Tests.{tests, all-facts, all-true, all-false, not-facts}
 use Rattle.model.proofs.Actions.{each-map, each-append}
 use Rattle.model.proofs.Pinned.{back-pins}
@@ -84,36 +84,36 @@ module _ (ws : List ℕ) where
   kept true e = (λ _. refl, λ _. eqb-true (getD ws 1 0) 1 e)
   kept false e = (λ h. absurd (eqb-false (getD ws 1 0) 1 e h), λ h. absurd (omega (arith, h)))
 
-  says-map : getD ws 0 0 ≡ 0 → Zeros L → Zeros U → Says ws (Map M)
-  says-map p l u = record {
+  spells-map : getD ws 0 0 ≡ 0 → Zeros L → Zeros U → Spells ws (Map M)
+  spells-map p l u = record {
     words = (p, (refl, (refl, (refl, (refl, (l .0, (l .1, (l .2, (l .3, (u .0, (u .1, (u .2, (u .3, tt)))))))))))));
     keep = λ m i. absurd (List·Memᴰ·not-nil i);
     there = tt;
   }
 
-  says-unmap : getD ws 0 0 ≡ 2 → Zeros L → Zeros U → Says ws (Unmap keep M)
-  says-unmap p l u = record {
+  spells-unmap : getD ws 0 0 ≡ 2 → Zeros L → Zeros U → Spells ws (Unmap keep M)
+  spells-unmap p l u = record {
     words = (p, (refl, (refl, (refl, (refl, (l .0, (l .1, (l .2, (l .3, (u .0, (u .1, (u .2, (u .3, tt)))))))))))));
     keep = λ m i. kept keep refl;
     there = tt;
   }
 
-  says-lower : getD ws 0 0 ≡ 1 → isAbsent L ≡ false → Zeros U → Says ws (Remap keep M (Lower L))
-  says-lower p l u = record {
+  spells-lower : getD ws 0 0 ≡ 1 → isAbsent L ≡ false → Zeros U → Spells ws (Remap keep M (Lower L))
+  spells-lower p l u = record {
     words = (p, (refl, (refl, (refl, (refl, (refl, (refl, (refl, (refl, (u .0, (u .1, (u .2, (u .3, tt)))))))))))));
     keep = λ m i. kept keep refl;
     there = (present L l, tt);
   }
 
-  says-upper : getD ws 0 0 ≡ 1 → Zeros L → isAbsent U ≡ false → Says ws (Remap keep M (Upper U))
-  says-upper p l u = record {
+  spells-upper : getD ws 0 0 ≡ 1 → Zeros L → isAbsent U ≡ false → Spells ws (Remap keep M (Upper U))
+  spells-upper p l u = record {
     words = (p, (refl, (refl, (refl, (refl, (l .0, (l .1, (l .2, (l .3, (refl, (refl, (refl, (refl, tt)))))))))))));
     keep = λ m i. kept keep refl;
     there = (present U u, tt);
   }
 
-  says-both : getD ws 0 0 ≡ 1 → isAbsent L ≡ false → isAbsent U ≡ false → Says ws (Remap keep M (Both L U))
-  says-both p l u = record {
+  spells-both : getD ws 0 0 ≡ 1 → isAbsent L ≡ false → isAbsent U ≡ false → Spells ws (Remap keep M (Both L U))
+  spells-both p l u = record {
     words = (p, (refl, (refl, (refl, (refl, (refl, (refl, (refl, (refl, (refl, (refl, (refl, (refl, tt)))))))))))));
     keep = λ m i. kept keep refl;
     there = (present L l, (present U u, tt));
@@ -126,25 +126,25 @@ module _ (ws : List ℕ) where
       Empty none = Unit {0}
       Empty (some o) = ⊥
 
-  to : {o p : Operation} → some p ≡ some o → Says ws p → Says ws o
-  to {o} {p} e h = subst (Says ws) (Option·some-injective p o e) h
+  to : {o p : Operation} → some p ≡ some o → Spells ws p → Spells ws o
+  to {o} {p} e h = subst (Spells ws) (Option·some-injective p o e) h
 
-  read-says : (o : Operation) → operationIn ws ≡ some o → Says ws o
-  read-says o e = go (getD ws 0 0) (isAbsent L) (isAbsent U) refl refl refl
+  read-spells : (o : Operation) → operationIn ws ≡ some o → Spells ws o
+  read-spells o e = go (getD ws 0 0) (isAbsent L) (isAbsent U) refl refl refl
     where
       at : {k : ℕ} {a b : Bool} → getD ws 0 0 ≡ k → isAbsent L ≡ a → isAbsent U ≡ b → operationBy k keep M (restsBy a b L U) ≡ some o
       at p q r = sym (by-parts p q r) ∙ e
 
-      go : (k : ℕ) (a b : Bool) → getD ws 0 0 ≡ k → isAbsent L ≡ a → isAbsent U ≡ b → Says ws o
-      go zero true true p q r = to (at p q r) (says-map p (absent-zeros L q) (absent-zeros U r))
+      go : (k : ℕ) (a b : Bool) → getD ws 0 0 ≡ k → isAbsent L ≡ a → isAbsent U ≡ b → Spells ws o
+      go zero true true p q r = to (at p q r) (spells-map p (absent-zeros L q) (absent-zeros U r))
       go zero true false p q r = never (at p q r)
       go zero false true p q r = never (at p q r)
       go zero false false p q r = never (at p q r)
       go (suc zero) true true p q r = never (at p q r)
-      go (suc zero) true false p q r = to (at p q r) (says-upper p (absent-zeros L q) r)
-      go (suc zero) false true p q r = to (at p q r) (says-lower p q (absent-zeros U r))
-      go (suc zero) false false p q r = to (at p q r) (says-both p q r)
-      go (suc (suc zero)) true true p q r = to (at p q r) (says-unmap p (absent-zeros L q) (absent-zeros U r))
+      go (suc zero) true false p q r = to (at p q r) (spells-upper p (absent-zeros L q) r)
+      go (suc zero) false true p q r = to (at p q r) (spells-lower p q (absent-zeros U r))
+      go (suc zero) false false p q r = to (at p q r) (spells-both p q r)
+      go (suc (suc zero)) true true p q r = to (at p q r) (spells-unmap p (absent-zeros L q) (absent-zeros U r))
       go (suc (suc zero)) true false p q r = never (at p q r)
       go (suc (suc zero)) false true p q r = never (at p q r)
       go (suc (suc zero)) false false p q r = never (at p q r)
@@ -160,33 +160,33 @@ module _ (ws : List ℕ) where
   keep-is true h = eq-eqb (getD ws 1 0) 1 (h .1 refl)
   keep-is false h = ne-eqb (getD ws 1 0) 1 (λ e. omega (arith, h .0 e))
 
-  says-read : (o : Operation) → Says ws o → operationIn ws ≡ some o
-  says-read (Map m) h = go (h .words)
+  spells-read : (o : Operation) → Spells ws o → operationIn ws ≡ some o
+  spells-read (Map m) h = go (h .words)
     where
       go : SameWords ws (operationWords (Map m)) → operationIn ws ≡ some (Map m)
       go (k, (a, (s, (o, (f, (l0, (l1, (l2, (l3, (u0, (u1, (u2, (u3, _))))))))))))) =
           by-parts k (zeros-absent L (l0, l1, l2, l3)) (zeros-absent U (u0, u1, u2, u3)) ∙ ap (λ (n : Mapping). some (Map n)) (is 2 m a s o f)
-  says-read (Unmap keep m) h = go (h .words)
+  spells-read (Unmap keep m) h = go (h .words)
     where
       go : SameWords ws (operationWords (Unmap keep m)) → operationIn ws ≡ some (Unmap keep m)
       go (k, (a, (s, (o, (f, (l0, (l1, (l2, (l3, (u0, (u1, (u2, (u3, _))))))))))))) =
           by-parts k (zeros-absent L (l0, l1, l2, l3)) (zeros-absent U (u0, u1, u2, u3))
           ∙ ap₂ (λ (b : Bool) (n : Mapping). some (Unmap b n)) (keep-is keep (h .keep m (List·Memᴰ·head refl))) (is 2 m a s o f)
-  says-read (Remap keep m (Lower l)) h = go (h .words)
+  spells-read (Remap keep m (Lower l)) h = go (h .words)
     where
       go : SameWords ws (operationWords (Remap keep m (Lower l))) → operationIn ws ≡ some (Remap keep m (Lower l))
       go (k, (a, (s, (o, (f, (l0, (l1, (l2, (l3, (u0, (u1, (u2, (u3, _))))))))))))) =
           let e = is 6 l l0 l1 l2 l3 in
           by-parts k (ap isAbsent e ∙ present-false l (h .there .0)) (zeros-absent U (u0, u1, u2, u3))
           ∙ λ i. some (Remap (keep-is keep (h .keep m (List·Memᴰ·head refl)) i) (is 2 m a s o f i) (Lower (e i)))
-  says-read (Remap keep m (Upper u)) h = go (h .words)
+  spells-read (Remap keep m (Upper u)) h = go (h .words)
     where
       go : SameWords ws (operationWords (Remap keep m (Upper u))) → operationIn ws ≡ some (Remap keep m (Upper u))
       go (k, (a, (s, (o, (f, (l0, (l1, (l2, (l3, (u0, (u1, (u2, (u3, _))))))))))))) =
           let e = is 10 u u0 u1 u2 u3 in
           by-parts k (zeros-absent L (l0, l1, l2, l3)) (ap isAbsent e ∙ present-false u (h .there .0))
           ∙ λ i. some (Remap (keep-is keep (h .keep m (List·Memᴰ·head refl)) i) (is 2 m a s o f i) (Upper (e i)))
-  says-read (Remap keep m (Both l u)) h = go (h .words)
+  spells-read (Remap keep m (Both l u)) h = go (h .words)
     where
       go : SameWords ws (operationWords (Remap keep m (Both l u))) → operationIn ws ≡ some (Remap keep m (Both l u))
       go (k, (a, (s, (o, (f, (l0, (l1, (l2, (l3, (u0, (u1, (u2, (u3, _))))))))))))) =
@@ -200,8 +200,8 @@ module _ (ws : List ℕ) where
 abbrev Own : Operation → Type 0
 Own o = operationIn (operationWords o) ≡ some o
 
-own-says : (o : Operation) → Each (λ m. 0 < m .size) (rests o) → Says (operationWords o) o
-own-says o h = record {
+own-spells : (o : Operation) → Each (λ m. 0 < m .size) (rests o) → Spells (operationWords o) o
+own-spells o h = record {
   words = same-words (operationWords o);
   keep = λ n i. (λ e. e, λ e. e);
   there = each-map (λ m. 0 < m .size) (λ m. restLaid m ≡ 0 ∷ 0 ∷ 0 ∷ 0 ∷ [] → ⊥) (rests o)
@@ -213,7 +213,7 @@ own-says o h = record {
 
 -- the rests of a mapping hit are not empty
 own-operation : (r : Request) (m : Mapping) → Own (operationOf r m)
-own-operation r m = says-read (operationWords (operationOf r m)) (operationOf r m) (own-says (operationOf r m) (go (l .size) (u .size) refl refl _))
+own-operation r m = spells-read (operationWords (operationOf r m)) (operationOf r m) (own-spells (operationOf r m) (go (l .size) (u .size) refl refl _))
   where
     l : Mapping
     l = lowerPart (r .address) m
@@ -237,11 +237,11 @@ own-operations r ms = each-append Own (map (operationOf r) (hits r ms)) (map Map
 
     news : (ns : List Mapping) → Each Own (map Map ns)
     news [] = tt
-    news (n ∷ ns) = (says-read (operationWords (Map n)) (Map n) (own-says (Map n) tt), news ns)
+    news (n ∷ ns) = (spells-read (operationWords (Map n)) (Map n) (own-spells (Map n) tt), news ns)
 
 pub operation-reading : OperationReading
 operation-reading = record {
-  exactly = λ ws o. (read-says ws o, says-read ws o);
+  exactly = λ ws o. (read-spells ws o, spells-read ws o);
   own = own-operations;
   pinned = back-pins listedOperation listed listed-back;
 }

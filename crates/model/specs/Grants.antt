@@ -118,17 +118,17 @@ OperationLayout = (o : Operation) → Laid o (operationWords o)
 abbrev pub SameWords : List ℕ → List ℕ → Type 0
 SameWords ws vs = Each (λ i. getD ws i 0 ≡ getD vs i 0) (0 ∷ 2 ∷ 3 ∷ 4 ∷ 5 ∷ 6 ∷ 7 ∷ 8 ∷ 9 ∷ 10 ∷ 11 ∷ 12 ∷ 13 ∷ [])
 
--- words say o: they are its own, but that any other keep word than 1 reads as 0 (a map's is not read), and its rests
+-- words spell o: they are its own, but that any other keep word than 1 reads as 0 (a map's is not read), and its rests
 -- are there
-pub record Says (ws : List ℕ) (o : Operation) : Type 0 where
+pub record Spells (ws : List ℕ) (o : Operation) : Type 0 where
   pub words : SameWords ws (operationWords o)
   pub keep : (m : Mapping) → m ∈ old o → (getD ws 1 0 ≡ 1) ↔ (getD (operationWords o) 1 0 ≡ 1)
   pub there : Each (λ m. restLaid m ≡ 0 ∷ 0 ∷ 0 ∷ 0 ∷ [] → ⊥) (rests o)
 
--- an operation is read from words exactly if they say it; so a request's own operations are read back as they were
+-- an operation is read from words exactly if they spell it; so a request's own operations are read back as they were
 -- written
 pub record OperationReading : Type 0 where
-  pub exactly : (ws : List ℕ) (o : Operation) → (operationIn ws ≡ some o) ↔ Says ws o
+  pub exactly : (ws : List ℕ) (o : Operation) → (operationIn ws ≡ some o) ↔ Spells ws o
   pub own : (r : Request) (ms : List Mapping) → Each (λ o. operationIn (operationWords o) ≡ some o) (operations r ms)
   -- and no two values of the answer enum read alike
   pub pinned : Pins listedOperation
