@@ -1,6 +1,5 @@
 -- A cut by places: the mappings that a request hits stand together, and what the request makes of the table is what it
--- makes of
--- them, in their place.
+-- makes of them, in their place.
 -- Assumes nothing.
 use mathlib.Core.Path.{_≡_, sym, ap, subst, _∙_}
 use mathlib.Core.Bool.{true, false}

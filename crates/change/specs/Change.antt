@@ -21,8 +21,7 @@ pub record Ready (r : Request) (t : Table) (n : ℕ) : Type 0 where
   pub room : length (after r (mappings t)) ≤ capacity t → 14 * length (operations r (mappings t)) ≤ n
 
 -- the mappings hit are those from place lo up to hi: lo is the first that ends behind the range's first byte, and hi
--- the first
--- from there on that starts behind its last
+-- the first from there on that starts behind its last
 pub record Placed (r : Request) (ws : List ℕ) (lo hi : ℕ) : Type 0 where
   pub count : ℕ
   pub table : Valid ws count

@@ -1,6 +1,5 @@
 -- Calls for one request that go by rows, the one for room the last: their laws from what the rows say. A service with
--- other rows, or another
--- test for room, gives a ByRows of its own.
+-- other rows, or another test for room, gives a ByRows of its own.
 -- Assumes nothing.
 use mathlib.Core.Path.{_≡_, sym, ap, subst, _∙_}
 use mathlib.Core.Logic.{_⊎_, inl, inr}

@@ -1,6 +1,5 @@
 -- Demand 3 of every service of cuts that shows its laws: cuts that share no byte commute, one that is repeated changes
--- nothing, and those that
--- touch chain.
+-- nothing, and those that touch chain.
 -- Assumes nothing.
 use mathlib.Core.Path.{_≡_, sym, ap, subst, _∙_}
 use mathlib.Core.List.{List, [], _∷_, map, flatMap}

@@ -1,6 +1,5 @@
 -- A series of calls, granted and refused as they come: the granted ones act one after another, the others leave the
--- state, and if the uncut
--- request is granted only room is ever wanting. For any service that shows its laws.
+-- state, and if the uncut request is granted only room is ever wanting. For any service that shows its laws.
 -- Assumes nothing.
 use mathlib.Core.Path.{_≡_, sym, ap, subst, _∙_}
 use mathlib.Core.Logic.{_⊎_, inl, inr}

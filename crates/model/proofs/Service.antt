@@ -1,7 +1,6 @@
 -- Any service of requests: what demand 3 says of it, and what it must show for that. A service that is added later (a
--- batch of requests in a
--- call, a pool of clients, a table of joined mappings) gives a Service of its own, and shows StateLaws and CallLaws;
--- ByRows is a short way to CallLaws.
+-- batch of requests in a call, a pool of clients, a table of joined mappings) gives a Service of its own, and shows
+-- StateLaws and CallLaws; ByRows is a short way to CallLaws.
 -- Assumes nothing.
 use mathlib.Core.Path.{_≡_}
 use mathlib.Core.Logic.{_⊎_}
@@ -94,9 +93,8 @@ pub record StateLaws {S : Type 0} (w : View S) (Holds : S → List Mapping → S
   pub room-less : (s : S) (m n : ℕ) → m ≤ n → w .Room s n → w .Room s m
 
 -- `act` is what a granted request makes of a table. For `after`, the cut, General has the claim; for another, as where
--- mappings are joined,
--- Series still tells what a series of calls comes to, and what is left to show is what the acts of the pieces make of a
--- table
+-- mappings are joined, Series still tells what a series of calls comes to, and what is left to show is what the acts of
+-- the pieces make of a table
 module _ {S C A : Type 0} (act : Request → List Mapping → List Mapping) (v : Service S C A) (w : View S) (space : Space) where
   -- the table that a grant leaves
   abbrev pub served : S → C → List Mapping

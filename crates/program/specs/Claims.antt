@@ -1,6 +1,5 @@
 -- What is claimed of the script program: its records, the order in which it takes them, what each does, the refusals
--- that it can give, and
--- what some scripts print.
+-- that it can give, and what some scripts print.
 use Prim.Native.String.{String}
 use Rattle.model.specs.Prelude.{_≡_, _⊎_, List, [], _∷_, _++_, ℕ, _+_, _*_, _/_, _^_, _<_, length, take, drop, replicate}
 use Rattle.model.specs.Calls.{refused, answered, mappings, operations, byNumbers, bytesOf, requestOf, recordOf, spaceOf, bytes, Outcome, bind, lookup}
@@ -41,8 +40,7 @@ abbrev pub bindAt : State → List ℕ → Outcome
 bindAt st bs = bind (st .space) (st .table) (st .operations) (bytes (take 40 (drop 2 bs)))
 
 -- what stands at the front of the bytes where no record does: nothing; one byte; a known mark with too few bytes behind
--- it; another mark,
--- whatever stands behind it
+-- it; another mark, whatever stands behind it
 pub record Fronts : Type 0 where
   pub nothing : recordAt [] ≡ End
   pub one-byte : (a : ℕ) → recordAt (a ∷ []) ≡ Cut
@@ -61,8 +59,7 @@ Takes Cut n = ⊥
 Takes End n = ⊥
 
 -- what is printed for bytes whose first stands at the place p of the script: a record's lines, and then what the bytes
--- behind it give; at
--- another mark and at a cut the place, and nothing more
+-- behind it give; at another mark and at a cut the place, and nothing more
 pub record InOrder (st : State) (p : ℕ) (bs : List ℕ) : Type 0 where
   pub goes-on : (n : ℕ) → Takes (recordAt bs) n → run (length bs) st p bs
       ≡ lines p (operations (requestOf (take 40 (drop 2 bs))) (mappings (st .table))) (step st bs .told)

@@ -41,7 +41,8 @@ pub record Outstanding (os : List ℕ) (next left : ℕ) : Type 0 where
   pub within : 14 * (next + left) ≤ length os
   pub known : Known os next left
 
--- all that is still to be printed: the operations of the last grant, and what the unread bytes bs give; ws are the table's words, os the operations'
+-- all that is still to be printed: the operations of the last grant, and what the unread bytes bs give; ws are the
+-- table's words, os the operations'
 unfoldable pub toCome : Progress → List ℕ → List ℕ → List ℕ → List ℕ
 toCome p ws os bs = pending os (p .next) (p .left) ++ choose (p .stopped) [] (run (length bs) (stateOf (p .space) ws (p .count) os) (p .place) bs)
 
@@ -49,7 +50,8 @@ toCome p ws os bs = pending os (p .next) (p .left) ++ choose (p .stopped) [] (ru
 abbrev pub startProgress : Progress
 startProgress = record { space = start .space; count = 0; place = 0; next = 0; left = 0; stopped = false }
 
--- the bytes end before the record does; then the program waits, if more can come. How many operations an answer hands over
+-- the bytes end before the record does; then the program waits, if more can come. How many operations an answer hands
+-- over
 abbrev pub isShort : Told → Bool
 isShort (emptied n) = false
 isShort (granted g) = false
@@ -82,8 +84,9 @@ pub record Idle (p : Progress) (bs : List ℕ) (last : Bool) : Type 0 where
   pub none-left : p .left ≡ 0
   pub because : (p .stopped ≡ true) ⊎ ((last ≡ false) × ((recordAt bs ≡ Cut) ⊎ (recordAt bs ≡ End)))
 
--- from p, with the unread bytes bs, some text was put at a place of the output, and what it leaves goes on with the rest, whatever
--- bytes come behind; none come where bs are the last. What is held is what the records taken leave, also where the program has stopped
+-- from p, with the unread bytes bs, some text was put at a place of the output, and what it leaves goes on with the
+-- rest, whatever bytes come behind; none come where bs are the last. What is held is what the records taken leave, also
+-- where the program has stopped
 pub record Goes (p : Progress) (ws os bs : List ℕ) (last : Bool) (out : List ℕ) (at : ℕ) (t : Turned) (ws' os' out' : List ℕ) : Type 0 where
   pub text : List ℕ
   pub bytes : out' ≡ stored out at text

@@ -1,4 +1,5 @@
--- A whole run of the program, and the claim about it: whatever the pieces in which a script comes, what is printed is its output.
+-- A whole run of the program, and the claim about it: whatever the pieces in which a script comes, what is printed is
+-- its output.
 -- Assumes nothing.
 use mathlib.Core.Path.{_≡_}
 use mathlib.Core.Bool.{Bool, true, false}
@@ -11,7 +12,8 @@ use Rattle.script.specs.declared.Turned.{Turned}
 use Rattle.script.specs.Steps.{stateOf}
 use Rattle.script.specs.Progress.{startProgress, toCome, Goes}
 
--- the bytes that have come, whether they are the last, those still unread, the text printed, and what the program holds: progress, table words, operation words
+-- the bytes that have come, whether they are the last, those still unread, the text printed, and what the program
+-- holds: progress, table words, operation words
 pub data Stream : List ℕ → Bool → List ℕ → List ℕ → Progress → List ℕ → List ℕ → Type 0 where
   begun : Stream [] false [] [] startProgress (start .table .words) (start .operations)
   came : {bs unread text : List ℕ} {p : Progress} {ws os : List ℕ} → Stream bs false unread text p ws os → (more : List ℕ)

@@ -160,8 +160,8 @@ Over ReadFailed r input n = Ends ReadFailed r input
 Over WriteFailed r input n = Ends WriteFailed r input
 Over TooLong r input n = Ends TooLong r input ⊎ (2 ^ 64 ≤ n + 1)
 
--- a whole run: the text that its rounds handed over, why it is over, and the bytes that have come; where it is done, the
--- text is the script's output
+-- a whole run: the text that its rounds handed over, why it is over, and the bytes that have come; where it is done,
+-- the text is the script's output
 pub record Ran (e : End) (ws os input : List ℕ) : Type 0 where
   pub run : Run
   pub text : List ℕ

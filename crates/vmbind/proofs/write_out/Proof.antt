@@ -1,4 +1,5 @@
--- `vmbind::write_out` meets its contract. The loop's invariant: no more was written than there is; the measure is what is left of it.
+-- `vmbind::write_out` meets its contract. The loop's invariant: no more was written than there is; the measure is what
+-- is left of it.
 -- Assumes nothing.
 use mathlib.Core.Path.{sym}
 use Prim.Native.Nat.{_-_, _≤_}
