@@ -13,7 +13,6 @@ ghost use lib.Dec.{leb};
 ghost use lib.ListN.{length};
 ghost use Rattle.model.specs.Rules.{limit, stop};
 ghost use Rattle.model.specs.Cut.{lowerPart, upperPart, mappingOf, keepMark, operationOf};
-ghost use Rattle.model.specs.Table.{mappingFrom};
 ghost use Rattle.model.specs.Layout.{operationWords, isAbsent, restsIn, operationBy, operationIn, listedOperation};
 ghost use Rattle.words.specs.Words.{stored};
 ghost use Rattle.table.specs.Places.{between};
@@ -211,19 +210,6 @@ fn write_operation(operations: &mut [u64], at: usize, operation: Operation)
     }
 }
 
-// The mapping in the four words from place `i` on.
-fn mapping_from(words: &[u64], i: usize) -> Mapping
-    requires { ⌜ i + 4 ≤ length (now words) ⌝ }
-    ensures { λ m. ⌜ m ≡ mappingFrom i (now (words .entry)) ⌝ }
-{
-    Mapping {
-        address: words[i],
-        size: words[i + 1],
-        object: words[i + 2],
-        offset: words[i + 3],
-    }
-}
-
 // A rest of four zeros.
 fn is_absent(m: Mapping) -> bool
     ensures { λ b. ⌜ b ≡ isAbsent m ⌝ }
@@ -267,9 +253,9 @@ pub fn read_operation(words: &[u64]) -> Listed
 {
     let kind = words[0];
     let keep = words[1] == 1;
-    let mapping = mapping_from(words, 2);
-    let lower = mapping_from(words, 6);
-    let upper = mapping_from(words, 10);
+    let mapping = table::mapping_from(words, 2);
+    let lower = table::mapping_from(words, 6);
+    let upper = table::mapping_from(words, 10);
     if kind == REMAP {
         return read_remap(keep, mapping, lower, upper);
     }

@@ -8,7 +8,7 @@ use mathlib.Core.List.{List, [], _∷_, map, List·Memᴰ·head, List·Memᴰ·n
 use Prim.Native.Nat.{ℕ, zero, suc, _<_}
 use native.Mathlib.Omega.{arith}
 use lib.Dec.{eqb}
-use lib.ListN.{getD}
+use lib.ListN.{length, getD}
 use borrow.Author.Tests.{eqb-true, eqb-false, eq-eqb, ne-eqb}
 use Rattle.model.specs.Prelude.{Mapping, Request, Lower, Upper, Both, Operation, Map, Remap, Unmap}
 use Rattle.model.specs.Rows.{choose}
@@ -30,6 +30,13 @@ operation-layout (Unmap keep m) = refl
 operation-layout (Remap keep m (Lower l)) = refl
 operation-layout (Remap keep m (Upper u)) = refl
 operation-layout (Remap keep m (Both l u)) = refl
+
+pub operation-length : (o : Operation) → length (operationWords o) ≡ 14
+operation-length (Map m) = ap length (operation-layout (Map m))
+operation-length (Unmap keep m) = ap length (operation-layout (Unmap keep m))
+operation-length (Remap keep m (Lower l)) = ap length (operation-layout (Remap keep m (Lower l)))
+operation-length (Remap keep m (Upper u)) = ap length (operation-layout (Remap keep m (Upper u)))
+operation-length (Remap keep m (Both l u)) = ap length (operation-layout (Remap keep m (Both l u)))
 
 -- ── an absent rest ──
 
@@ -197,7 +204,8 @@ module _ (ws : List ℕ) where
 
 -- ── a request's own ──
 
-abbrev Own : Operation → Type 0
+-- read as it was written
+abbrev pub Own : Operation → Type 0
 Own o = operationIn (operationWords o) ≡ some o
 
 own-spells : (o : Operation) → Each (λ m. 0 < m .size) (rests o) → Spells (operationWords o) o

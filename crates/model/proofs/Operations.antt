@@ -7,12 +7,12 @@ use mathlib.Core.List.{List, [], _∷_, _++_, map, flatMap, append-assoc, append
 use Prim.Native.Nat.{ℕ, zero, suc, _+_, _*_, _≤_}
 use native.Mathlib.Omega.{arith}
 use lib.ListN.{length, length-append, length-map}
-use Rattle.model.specs.Prelude.{Mapping, Request, Lower, Upper, Both, Operation, Map, Remap, Unmap}
+use Rattle.model.specs.Prelude.{Mapping, Request, Operation, Map}
 use Rattle.model.specs.Rules.{end, stop}
 use Rattle.model.specs.Cut.{lowerPart, upperPart, new, hits, operationFor, operationOf, operations, old}
 use Rattle.model.specs.Layout.{operationWords}
 use Rattle.model.specs.Exactly.{_∈_, ShareByte, Ascends}
-use Rattle.model.proofs.OperationWords.{operation-layout}
+use Rattle.model.proofs.OperationWords.{operation-length}
 use Rattle.model.proofs.New.{new-most}
 use Rattle.model.proofs.Hits.{hits-hit, hit-hits, hits-ordered, hits-most}
 
@@ -57,14 +57,7 @@ olds r ms = flatMap-operations old (λ m. refl) r ms ∙ go (hits r ms)
 pub operations-words : (os : List Operation) → length (flatMap operationWords os) ≡ 14 * length os
 unfolding flatMap
 operations-words [] = refl
-operations-words (o ∷ os) = omega (arith, length-append (operationWords o) (flatMap operationWords os), each-words o, operations-words os)
-  where
-    each-words : (o : Operation) → length (operationWords o) ≡ 14
-    each-words (Map m) = ap length (operation-layout (Map m))
-    each-words (Remap k m (Lower l)) = ap length (operation-layout (Remap k m (Lower l)))
-    each-words (Remap k m (Upper u)) = ap length (operation-layout (Remap k m (Upper u)))
-    each-words (Remap k m (Both l u)) = ap length (operation-layout (Remap k m (Both l u)))
-    each-words (Unmap k m) = ap length (operation-layout (Unmap k m))
+operations-words (o ∷ os) = omega (arith, length-append (operationWords o) (flatMap operationWords os), operation-length o, operations-words os)
 
 pub operations-most : (r : Request) (ms : List Mapping) → length (operations r ms) ≤ length ms + 1
 unfolding operations

@@ -2,7 +2,7 @@
 -- Assumes nothing.
 use mathlib.Core.Path.{_≡_, refl, ap, _∙_}
 use mathlib.Core.Option.{some}
-use mathlib.Core.List.{List, [], _∷_, _++_, append-assoc, append-nil, flatMap}
+use mathlib.Core.List.{List, [], _∷_, _++_, append-assoc, flatMap}
 use Prim.Native.Nat.{ℕ, suc, _*_}
 use native.Mathlib.Omega.{arith}
 use lib.ListN.{length, take, drop, length-append, length-drop}
@@ -20,22 +20,14 @@ use Rattle.program.specs.Text.{operationLines}
 use Rattle.program.specs.Script.{State, granted, emptied, shows, toldBy, setSpace, bindIn, requestIn, stepOn, step, recordAt, operationsIn}
 use Rattle.model.proofs.Operations.{operations-words}
 use Rattle.model.proofs.Replays.{replay-claim}
-use Rattle.model.proofs.OperationWords.{own-operations}
+use Rattle.model.proofs.OperationWords.{operation-length, Own, own-operations}
 use Rattle.script.specs.Progress.{operationAt, pending, Known, Outstanding}
-
-operation-words : (o : Operation) → length (operationWords o) ≡ 14
-unfolding flatMap
-operation-words o = rw append-nil at (operations-words (o ∷ []))
-
--- read as it was written
-abbrev Own : Operation → Type 0
-Own o = operationIn (operationWords o) ≡ some o
 
 -- the i-th, behind what was written before
 written-at : (front : List ℕ) (i : ℕ) (o : Operation) (rest : List ℕ) → length front ≡ 14 * i → Own o
     → operationAt (front ++ (operationWords o ++ rest)) i ≡ some o
 written-at front i o rest h own =
-    ap operationIn (ap (take 14) (drop-at front (operationWords o ++ rest) (14 * i) h) ∙ take-at (operationWords o) rest 14 (operation-words o)) ∙ own
+    ap operationIn (ap (take 14) (drop-at front (operationWords o ++ rest) (14 * i) h) ∙ take-at (operationWords o) rest 14 (operation-length o)) ∙ own
 
 -- and those from it on
 written-from : (front : List ℕ) (i : ℕ) (ops : List Operation) (tail : List ℕ) → length front ≡ 14 * i → Each Own ops
@@ -45,7 +37,7 @@ unfolding pending Known flatMap
 written-from front i [] tail h own = (refl, tt)
 written-from front i (o ∷ ops) tail h own =
     let rest : List ℕ = flatMap operationWords ops ++ tail in
-    let n : length (front ++ operationWords o) ≡ 14 * suc i = simp length-append (omega (arith, operation-words o)) in
+    let n : length (front ++ operationWords o) ≡ 14 * suc i = simp length-append (omega (arith, operation-length o)) in
     let d : front ++ ((operationWords o ++ flatMap operationWords ops) ++ tail) ≡ front ++ (operationWords o ++ rest) = simp append-assoc in
     let e : front ++ (operationWords o ++ rest) ≡ (front ++ operationWords o) ++ rest = simp append-assoc in
     let at = written-at front i o rest h (own .0) in

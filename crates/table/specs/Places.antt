@@ -5,12 +5,12 @@ use mathlib.Core.Bool.{Bool}
 use mathlib.Core.List.{List, [], _∷_}
 use Prim.Native.Nat.{ℕ, suc, _+_, _*_, _≤_}
 use lib.Dec.{ltb}
-use lib.ListN.{length, getD, drop}
+use lib.ListN.{length, drop}
 use Rattle.model.specs.declared.Mapping.{Mapping}
 use Rattle.model.specs.declared.Space.{Space}
 use Rattle.model.specs.Rows.{choose}
 use Rattle.model.specs.Rules.{limit, end}
-use Rattle.model.specs.Table.{Table, mappingsIn, badPlace}
+use Rattle.model.specs.Table.{Table, mappingFrom, mappingsIn, badPlace}
 
 -- a table in a lent slice of words
 abbrev pub lent : List ℕ → ℕ → Table
@@ -18,7 +18,7 @@ lent ws count = record { words = ws; count = count }
 
 -- the mapping at place i
 unfoldable pub mappingAt : List ℕ → ℕ → Mapping
-mappingAt ws i = record { address = getD ws (4 * i) 0; size = getD ws (4 * i + 1) 0; object = getD ws (4 * i + 2) 0; offset = getD ws (4 * i + 3) 0 }
+mappingAt ws i = mappingFrom (4 * i) ws
 
 -- the mappings from place lo up to hi
 unfoldable pub between : List ℕ → ℕ → ℕ → List Mapping

@@ -6,7 +6,7 @@ ghost use mathlib.Core.List.{[], _∷_, _++_, flatMap};
 ghost use Prim.Native.Nat.{_+_, _*_, _≤_};
 ghost use lib.ListN.{length, drop};
 ghost use Rattle.model.specs.Rules.{limit};
-ghost use Rattle.model.specs.Table.{mappingsIn, wordsOf, written};
+ghost use Rattle.model.specs.Table.{mappingFrom, mappingsIn, wordsOf, written};
 ghost use Rattle.model.specs.Cut.{prepend, translate};
 ghost use Rattle.words.specs.Words.{stored};
 ghost use Rattle.table.specs.Places.{mappingAt, firstWhere, startsBehind, endsBehind, Valid};
@@ -20,18 +20,25 @@ pub enum Replacement {
     Three(Mapping, Mapping, Mapping),
 }
 
+// The mapping in the four words from word `at` on.
+pub fn mapping_from(words: &[u64], at: usize) -> Mapping
+    requires { ⌜ at + 4 ≤ length (now words) ⌝ }
+    ensures { λ m. ⌜ m ≡ mappingFrom at (now (words .entry)) ⌝ }
+{
+    Mapping {
+        address: words[at],
+        size: words[at + 1],
+        object: words[at + 2],
+        offset: words[at + 3],
+    }
+}
+
 // The mapping at place `i`.
 pub fn read_mapping(t: &[u64], i: usize) -> Mapping
     requires { ⌜ 4 * i + 4 ≤ length (now t) ⌝ }
     ensures { λ m. ⌜ m ≡ mappingAt (now (t .entry)) i ⌝ }
 {
-    let at = 4 * i;
-    Mapping {
-        address: t[at],
-        size: t[at + 1],
-        object: t[at + 2],
-        offset: t[at + 3],
-    }
+    mapping_from(t, 4 * i)
 }
 
 // Writes a mapping at place `i`.
