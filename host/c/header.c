@@ -1,6 +1,6 @@
 /*
  * The header's constants and layouts are those of document 01. A wrong one does not compile: in
- * C99, freestanding, and in C++.
+ * C99, freestanding, in C++, and as a kernel compiles it.
  */
 #include "waylluqen.h"
 
@@ -24,6 +24,10 @@ SAME(WAYLLUQEN_REFUSED_NO_ROOM, 11);
 SAME(WAYLLUQEN_REFUSED_BAD_RECORD_LENGTH, 12);
 SAME(WAYLLUQEN_REFUSED_BAD_OP, 13);
 SAME(WAYLLUQEN_REFUSED_BAD_FLAGS, 14);
+
+/* The list has a text for each refusal. */
+#define TEXT(refusal, text) +(sizeof(text) > 1 ? (1u << (refusal)) : 0)
+typedef char texts[(WAYLLUQEN_REFUSALS(TEXT)) == (1u << 15) - 2 ? 1 : -1];
 
 SAME(WAYLLUQEN_OP_MAP, 0);
 SAME(WAYLLUQEN_OP_UNMAP, 1);
@@ -57,8 +61,8 @@ SAME(WAYLLUQEN_RECORD_BYTES, 4 * 4 + 3 * 8);
 
 SAME(WAYLLUQEN_PAGE_SIZE, 4096);
 SAME(WAYLLUQEN_MAX_MAPPINGS, 512);
-SAME(WAYLLUQEN_LIMIT, UINT64_C(281474976710656));
-SAME(WAYLLUQEN_MAX_OBJECT, UINT64_C(4294967295));
+SAME(WAYLLUQEN_LIMIT, 281474976710656ull);
+SAME(WAYLLUQEN_MAX_OBJECT, 4294967295ull);
 
 /* The longest table has 2,048 words. */
 typedef char longest_table[WAYLLUQEN_TABLE_WORDS(WAYLLUQEN_MAX_MAPPINGS) == 2048 ? 1 : -1];

@@ -2,8 +2,13 @@
 #ifndef WAYLLUQEN_H
 #define WAYLLUQEN_H
 
+#ifdef __KERNEL__ /* Linux: a -nostdinc build has these and no others */
+#include <linux/stddef.h>
+#include <linux/types.h>
+#else
 #include <stddef.h>
 #include <stdint.h>
+#endif
 
 #ifdef __cplusplus
 extern "C" {
@@ -27,6 +32,25 @@ extern "C" {
  */
 
 /**
+ * DOC: Version and interface
+ *
+ * %WAYLLUQEN_VERSION is the release, as CHANGELOG.md names it.
+ *
+ * %WAYLLUQEN_INTERFACE is a symbol that the archive exports, and its name carries the interface's
+ * number. Every file that includes this header needs that very symbol: where the archive is of
+ * another interface, older or newer, the program does not link, and the linker names the symbol.
+ * The number goes up whenever a layout, a parameter list or a number that is written here changes.
+ *
+ * A file that only wants layouts and numbers, in a program that links no archive, defines
+ * WAYLLUQEN_LAYOUTS_ONLY before it includes this header. There are no calls then.
+ */
+#define WAYLLUQEN_VERSION "0.1.0"
+#define WAYLLUQEN_VERSION_MAJOR 0
+#define WAYLLUQEN_VERSION_MINOR 1
+#define WAYLLUQEN_VERSION_PATCH 0
+#define WAYLLUQEN_INTERFACE waylluqen_interface_1
+
+/**
  * DOC: What the caller ensures
  *
  * This is all that no call can check for itself. Everything else may be as it likes.
@@ -39,9 +63,12 @@ extern "C" {
  * - Nobody else writes to lent memory during a call, or reads what the call writes: no other
  *   thread, no interrupt, no device. Look-ups in one table may run beside each other, but not
  *   beside a bind on it. There are no locks in here.
- * - The processor is an x86-64 with the System V calling convention, SSE2 may be used and the
- *   128 bytes below the stack pointer are left alone by interrupts. A call takes less than a
- *   kilobyte of stack. At link time there is a memset().
+ * - The processor is an x86-64 with the System V calling convention, and SSE2 may be used. A call
+ *   takes less than a kilobyte of stack. At link time there is a memset().
+ * - The stack pointer is a multiple of 16 at a call, as that convention has it. The Linux kernel
+ *   keeps it a multiple of 8 only: there the first bind faults, unless the caller aligns it.
+ * - The 128 bytes below the stack pointer are left alone during a call: by interrupts, and also by
+ *   faults, which come with interrupts off too. Both need a stack of their own, or must not happen.
  *
  * No call keeps a pointer, allocates, blocks, or touches memory that is not lent to it.
  */
@@ -106,6 +133,34 @@ enum waylluqen_refusal {
     WAYLLUQEN_REFUSED_BAD_OP = 13,
     WAYLLUQEN_REFUSED_BAD_FLAGS = 14
 };
+
+/**
+ * WAYLLUQEN_REFUSALS() - the refusals with a text for each, as a list
+ * @X: the name of a macro of two arguments, a &enum waylluqen_refusal and a string
+ *
+ * To make a switch or an array of, where a driver wants texts::
+ *
+ *      switch (answer.refusal) {
+ *      #define TEXT(refusal, text) case refusal: return text;
+ *          WAYLLUQEN_REFUSALS(TEXT)
+ *      #undef TEXT
+ *      }
+ */
+#define WAYLLUQEN_REFUSALS(X) \
+    X(WAYLLUQEN_REFUSED_BAD_SPACE, "the space breaks its rules") \
+    X(WAYLLUQEN_REFUSED_BAD_TABLE_LENGTH, "the table's length is not one that a table has") \
+    X(WAYLLUQEN_REFUSED_SHORT_OPERATIONS, "there are too few operation words") \
+    X(WAYLLUQEN_REFUSED_BAD_COUNT, "the count is above the table's capacity") \
+    X(WAYLLUQEN_REFUSED_BAD_MAPPING, "a mapping in the table breaks its rules") \
+    X(WAYLLUQEN_REFUSED_UNALIGNED, "an address, size or offset is not a multiple of a page") \
+    X(WAYLLUQEN_REFUSED_OUTSIDE_SPACE, "the range is not inside the space") \
+    X(WAYLLUQEN_REFUSED_RESERVED, "the range shares a byte with the reservation") \
+    X(WAYLLUQEN_REFUSED_BAD_OBJECT, "the object is not one that can be asked for") \
+    X(WAYLLUQEN_REFUSED_BAD_OFFSET, "the offset plus the size is too high") \
+    X(WAYLLUQEN_REFUSED_NO_ROOM, "the table has no room for the mappings afterwards") \
+    X(WAYLLUQEN_REFUSED_BAD_RECORD_LENGTH, "the record is not 40 bytes long") \
+    X(WAYLLUQEN_REFUSED_BAD_OP, "the op is neither map nor unmap") \
+    X(WAYLLUQEN_REFUSED_BAD_FLAGS, "flags or pad is not 0")
 
 /**
  * enum waylluqen_op - what a request asks for
@@ -281,6 +336,29 @@ typedef struct waylluqen_translation {
     uint64_t offset;
 } waylluqen_translation;
 
+#ifndef WAYLLUQEN_LAYOUTS_ONLY
+
+/**
+ * WAYLLUQEN_INTERFACE() - the number of the interface that the archive has
+ *
+ * No driver needs to call it: that it is there is what counts.
+ *
+ * Returns: the number that is in its name.
+ */
+uint32_t WAYLLUQEN_INTERFACE(void);
+
+/* Needs the symbol in each file. A linker that drops unused sections keeps this one by `retain`,
+ * which gcc has from 11 on and clang from 13 on. */
+#ifdef __GNUC__
+#ifdef __has_attribute
+#if __has_attribute(retain)
+__attribute__((retain))
+#endif
+#endif
+__attribute__((used)) static uint32_t (*const waylluqen_interface_needed)(void) =
+    WAYLLUQEN_INTERFACE;
+#endif
+
 /**
  * waylluqen_bind() - map or unmap a range, by numbers
  * @space: the space
@@ -382,6 +460,8 @@ waylluqen_translation waylluqen_lookup(waylluqen_space space, const uint64_t *ta
  */
 uint32_t waylluqen_check_request(const uint8_t *record, size_t record_bytes, uint64_t start,
                                  uint64_t size, uint64_t reserved_start, uint64_t reserved_size);
+
+#endif /* WAYLLUQEN_LAYOUTS_ONLY */
 
 #ifdef __cplusplus
 }

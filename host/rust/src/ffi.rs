@@ -1,8 +1,8 @@
 //! The static library's calls, with their answers in the words in which C has them. All `unsafe`
 //! is in this file; `include/waylluqen.h` says what the calls are.
 //!
-//! For tests and benchmarks that look at every word of an answer, and for drivers that keep their
-//! tables in structures of their own; others use [`Table`](crate::Table).
+//! For tests and benchmarks that look at every word of an answer; others use
+//! [`Table`](crate::Table) and [`View`](crate::View).
 //!
 //! ```
 //! use waylluqen::{ffi, operation_list_words, table_words, Request, Space};
@@ -67,6 +67,8 @@ pub struct Answer {
 }
 
 extern "C" {
+    fn waylluqen_interface_1() -> u32;
+
     fn waylluqen_check_request(
         record: *const u8,
         record_bytes: usize,
@@ -105,6 +107,10 @@ extern "C" {
         record_bytes: usize,
     ) -> Answer;
 }
+
+// Needs the archive that these declarations are of: with another one the program does not link.
+#[used]
+static INTERFACE: unsafe extern "C" fn() -> u32 = waylluqen_interface_1;
 
 /// Calls `waylluqen_check_request`: the number of the first reason to refuse a record, or 0.
 ///
