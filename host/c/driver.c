@@ -1,14 +1,16 @@
 /* SPDX-License-Identifier: MIT */
 /*
  * An example driver: it keeps one address space and carries each operation out on a page table,
- * here an array. host/rust/examples/driver.rs is the same in Rust. Both print what host/driver.out
- * has, and end with 1 if a page entry is not what look-ups say. From the repository's root:
+ * here an array. Where that fails half-way, it goes back. host/rust/examples/driver.rs is the same
+ * in Rust. Both print what host/driver.out has, and end with 1 if a page entry is not what look-ups
+ * say. From the repository's root:
  *
  *     rt staticlib waylluqen
  *     gcc -std=c99 -O2 -Ihost/include host/c/driver.c target/staticlib/libwaylluqen.a -o driver
  *     ./driver
  */
 #include <inttypes.h>
+#include <stdbool.h>
 #include <stdio.h>
 #include <stdlib.h>
 #include <string.h>
@@ -17,6 +19,7 @@
 
 #define PAGE ((uint64_t)WAYLLUQEN_PAGE_SIZE)
 #define START ((uint64_t)0x100000)
+#define PLENTY UINT64_MAX
 #define HEX "0x%" PRIx64
 #define LENGTH(array) (sizeof(array) / sizeof *(array))
 
@@ -28,19 +31,34 @@ struct entry {
     uint64_t object, offset;
 };
 
+/* Stands for the page table that the GPU reads. */
+struct page_table {
+    struct entry entries[PAGES];
+    uint64_t memory; /* how many entries can be changed until there is no memory; a simulation */
+};
+
+/* A table's words and their count: they change together, so they are copied together. */
+struct table {
+    uint64_t words[WAYLLUQEN_TABLE_WORDS(CAPACITY)], count;
+};
+
 /* All that a driver keeps for one address space: 64-bit words, with no gap between them. */
 struct address_space {
     waylluqen_space bounds;
-    uint64_t table[WAYLLUQEN_TABLE_WORDS(CAPACITY)], count;
+    struct table table;
     uint64_t operations[WAYLLUQEN_OPERATION_LIST_WORDS(CAPACITY)];
-    struct entry pages[PAGES]; /* stands for the page table that the GPU reads */
-    uint64_t compared;         /* how often the pages were compared with look-ups */
+    struct page_table pages;
+    uint64_t compared; /* how often the pages were compared with look-ups */
 };
 
-/* How many page entries a request clears, keeps and writes, and where the kept ones end. */
+/* The pages that a request changes, [start, end): its range but for the pages that are kept at its
+ * front. And how many page entries it clears, keeps and writes. */
 struct walk {
-    uint64_t cleared, kept, written, kept_end;
+    uint64_t start, end, cleared, kept, written;
 };
+
+/* What became of a request. REFUSED and WENT_BACK leave all as it was. */
+enum outcome { CARRIED_OUT, REFUSED, WENT_BACK };
 
 static void fail(const char *why, uint64_t number)
 {
@@ -57,26 +75,15 @@ static const char *name_of(uint64_t object)
 static void print_refusal(waylluqen_answer answer)
 {
     static const char *const texts[] = {
-        [WAYLLUQEN_REFUSED_BAD_SPACE] = "the space breaks its rules",
-        [WAYLLUQEN_REFUSED_BAD_TABLE_LENGTH] = "the table's length is not one that a table has",
-        [WAYLLUQEN_REFUSED_SHORT_OPERATIONS] = "there are too few operation words",
-        [WAYLLUQEN_REFUSED_BAD_COUNT] = "the count is above the table's capacity",
-        [WAYLLUQEN_REFUSED_BAD_MAPPING] = "in the table breaks its rules",
-        [WAYLLUQEN_REFUSED_UNALIGNED] = "an address, size or offset is not a multiple of a page",
-        [WAYLLUQEN_REFUSED_OUTSIDE_SPACE] = "the range is not inside the space",
-        [WAYLLUQEN_REFUSED_RESERVED] = "the range shares a byte with the reservation",
-        [WAYLLUQEN_REFUSED_BAD_OBJECT] = "the object is not one that can be asked for",
-        [WAYLLUQEN_REFUSED_BAD_OFFSET] = "the offset plus the size is too high",
-        [WAYLLUQEN_REFUSED_NO_ROOM] = "the table has no room for the mappings afterwards",
-        [WAYLLUQEN_REFUSED_BAD_RECORD_LENGTH] = "the record is not 40 bytes long",
-        [WAYLLUQEN_REFUSED_BAD_OP] = "the op is neither map nor unmap",
-        [WAYLLUQEN_REFUSED_BAD_FLAGS] = "flags or pad is not 0",
+#define TEXT(refusal, text) [refusal] = text,
+        WAYLLUQEN_REFUSALS(TEXT)
+#undef TEXT
     };
-    printf("  refused: ");
+    printf("  refused: %s", texts[answer.refusal]);
     if (answer.refusal == WAYLLUQEN_REFUSED_BAD_MAPPING) {
-        printf("mapping %" PRIu64 " ", answer.place);
+        printf(" (place %" PRIu64 ")", answer.place);
     }
-    printf("%s\n", texts[answer.refusal]);
+    printf("\n");
 }
 
 static uint64_t end_of(const uint64_t *mapping)
@@ -91,102 +98,177 @@ static void print_mapping(const char *what, const uint64_t *mapping)
            mapping[WAYLLUQEN_MAPPING_OFFSET]);
 }
 
-/* Writes the new mapping's entries, but for those that were kept: they are right already. */
-static void map(struct entry *pages, struct walk *walk, const uint64_t *new)
+static void print_operation(const uint64_t *operation)
 {
-    uint64_t first = new[WAYLLUQEN_MAPPING_ADDRESS];
-    uint64_t start = walk->kept_end > first ? walk->kept_end : first;
-    for (uint64_t at = start; at < end_of(new); at += PAGE) {
-        struct entry *entry = &pages[(at - START) / PAGE];
-        entry->object = new[WAYLLUQEN_MAPPING_OBJECT];
-        entry->offset = new[WAYLLUQEN_MAPPING_OFFSET] + (at - first);
+    static const char *const names[][2] = {
+        [WAYLLUQEN_KIND_MAP] = {"  map"},
+        [WAYLLUQEN_KIND_REMAP] = {"  remap", "  remap, keep"},
+        [WAYLLUQEN_KIND_UNMAP] = {"  unmap", "  unmap, keep"},
+    };
+    const uint64_t *lower = operation + WAYLLUQEN_OPERATION_LOWER;
+    const uint64_t *upper = operation + WAYLLUQEN_OPERATION_UPPER;
+    uint64_t kind = operation[WAYLLUQEN_OPERATION_KIND];
+    uint64_t keep = operation[WAYLLUQEN_OPERATION_KEEP];
+    print_mapping(names[kind][keep], operation + WAYLLUQEN_OPERATION_MAPPING);
+    if (lower[WAYLLUQEN_MAPPING_SIZE] != 0) {
+        print_mapping("    lower rest", lower);
+    }
+    if (upper[WAYLLUQEN_MAPPING_SIZE] != 0) {
+        print_mapping("    upper rest", upper);
+    }
+}
+
+static struct entry *entry_of(struct page_table *pages, uint64_t address)
+{
+    return &pages->entries[(address - START) / PAGE];
+}
+
+/* False if there is no memory for it, as where a large page would have to be split first. */
+static bool change(struct page_table *pages, uint64_t address, struct entry entry)
+{
+    if (pages->memory == 0) {
+        return false;
+    }
+    pages->memory--;
+    *entry_of(pages, address) = entry;
+    return true;
+}
+
+/* Writes the new mapping's entries, but for those that were kept: they are right already. */
+static bool map(struct page_table *pages, struct walk *walk, const uint64_t *new)
+{
+    for (uint64_t at = walk->start; at < end_of(new); at += PAGE) {
+        uint64_t offset = new[WAYLLUQEN_MAPPING_OFFSET] + (at - new[WAYLLUQEN_MAPPING_ADDRESS]);
+        if (!change(pages, at, (struct entry){new[WAYLLUQEN_MAPPING_OBJECT], offset})) {
+            return false;
+        }
         walk->written++;
     }
+    return true;
 }
 
 /* Clears [start, end), which an old mapping loses. With keep nothing is cleared: the new mapping
  * starts with the same address, object and offset, so that it shows the same up to end. */
-static void unmap(struct entry *pages, struct walk *walk, uint64_t keep, uint64_t start,
+static bool unmap(struct page_table *pages, struct walk *walk, uint64_t keep, uint64_t start,
                   uint64_t end)
 {
     if (keep) {
         walk->kept = (end - start) / PAGE;
-        walk->kept_end = end;
-        return;
+        walk->start = end;
+        return true;
     }
     for (uint64_t at = start; at < end; at += PAGE) {
-        pages[(at - START) / PAGE] = (struct entry){0, 0};
+        if (!change(pages, at, (struct entry){0, 0})) {
+            return false;
+        }
         walk->cleared++;
     }
+    return true;
 }
 
-static void carry_out(struct entry *pages, struct walk *walk, const uint64_t *operation)
+/* False if it failed, perhaps half-way. */
+static bool carry_out(struct page_table *pages, struct walk *walk, const uint64_t *operation)
 {
     const uint64_t *mapping = operation + WAYLLUQEN_OPERATION_MAPPING;
     const uint64_t *lower = operation + WAYLLUQEN_OPERATION_LOWER;
     const uint64_t *upper = operation + WAYLLUQEN_OPERATION_UPPER;
-    uint64_t keep = operation[WAYLLUQEN_OPERATION_KEEP];
     uint64_t start = mapping[WAYLLUQEN_MAPPING_ADDRESS], end = end_of(mapping);
     switch (operation[WAYLLUQEN_OPERATION_KIND]) {
     case WAYLLUQEN_KIND_MAP:
-        print_mapping("  map", mapping);
-        map(pages, walk, mapping);
-        return;
+        return map(pages, walk, mapping);
     case WAYLLUQEN_KIND_REMAP: /* the mapping loses what is between its rests */
-        print_mapping(keep ? "  remap, keep" : "  remap", mapping);
         if (lower[WAYLLUQEN_MAPPING_SIZE] != 0) {
-            print_mapping("    lower rest", lower);
             start = end_of(lower);
         }
         if (upper[WAYLLUQEN_MAPPING_SIZE] != 0) {
-            print_mapping("    upper rest", upper);
             end = upper[WAYLLUQEN_MAPPING_ADDRESS];
         }
         break;
     case WAYLLUQEN_KIND_UNMAP:
-        print_mapping(keep ? "  unmap, keep" : "  unmap", mapping);
         break;
     }
-    unmap(pages, walk, keep, start, end);
-}
-
-/* Takes an answer. A refusal has changed nothing; a grant's operations are carried out in order,
- * and then a driver flushes the GPU's TLB. */
-static waylluqen_answer finish(struct address_space *space, waylluqen_answer answer)
-{
-    struct walk walk = {0, 0, 0, 0};
-    if (answer.refusal != WAYLLUQEN_OK) {
-        print_refusal(answer);
-        return answer;
-    }
-    space->count = answer.count;
-    for (uint64_t i = 0; i < answer.operations; i++) {
-        carry_out(space->pages, &walk, space->operations + i * WAYLLUQEN_OPERATION_WORDS);
-    }
-    printf("  page entries: %" PRIu64 " cleared, %" PRIu64 " kept, %" PRIu64 " written\n",
-           walk.cleared, walk.kept, walk.written);
-    return answer;
-}
-
-static waylluqen_answer bind(struct address_space *space, waylluqen_request request)
-{
-    return finish(space, waylluqen_bind(space->bounds, space->table, LENGTH(space->table),
-                                        space->count, space->operations,
-                                        LENGTH(space->operations), request));
-}
-
-static waylluqen_answer bind_record(struct address_space *space, const uint8_t *record,
-                                    size_t bytes)
-{
-    return finish(space, waylluqen_bind_record(space->bounds, space->table, LENGTH(space->table),
-                                               space->count, space->operations,
-                                               LENGTH(space->operations), record, bytes));
+    return unmap(pages, walk, operation[WAYLLUQEN_OPERATION_KEEP], start, end);
 }
 
 static waylluqen_translation look_up(const struct address_space *space, uint64_t address)
 {
-    return waylluqen_lookup(space->bounds, space->table, LENGTH(space->table), space->count,
-                            address);
+    return waylluqen_lookup(space->bounds, space->table.words, LENGTH(space->table.words),
+                            space->table.count, address);
+}
+
+/* Takes back what failed half-way: the table by its copy, and the entries by look-ups in it. Only
+ * pages of the range can have changed, and none that was kept. No memory is needed for what was
+ * there before, if the page table gives none back until all is carried out. */
+static void go_back(struct address_space *space, const struct table *before,
+                    const struct walk *walk)
+{
+    space->table = *before;
+    for (uint64_t at = walk->start; at < walk->end; at += PAGE) {
+        /* Not refused, since the bind took this table; zeros where nothing is mapped. */
+        waylluqen_translation shown = look_up(space, at);
+        *entry_of(&space->pages, at) = (struct entry){shown.object, shown.offset};
+    }
+}
+
+/* Carries a grant's operations out in order, or goes back. Either way a driver then flushes the
+ * GPU's TLB. */
+static enum outcome finish(struct address_space *space, const struct table *before,
+                           waylluqen_answer granted, uint64_t address, uint64_t size)
+{
+    struct walk walk = {.start = address, .end = address + size};
+    space->table.count = granted.count;
+    for (uint64_t i = 0; i < granted.operations; i++) {
+        if (!carry_out(&space->pages, &walk, space->operations + i * WAYLLUQEN_OPERATION_WORDS)) {
+            go_back(space, before, &walk);
+            return WENT_BACK;
+        }
+    }
+    for (uint64_t i = 0; i < granted.operations; i++) {
+        print_operation(space->operations + i * WAYLLUQEN_OPERATION_WORDS);
+    }
+    printf("  page entries: %" PRIu64 " cleared, %" PRIu64 " kept, %" PRIu64 " written\n",
+           walk.cleared, walk.kept, walk.written);
+    return CARRIED_OUT;
+}
+
+/* The copy is 32 bytes for each mapping that there is room for. With room for 512 that is too much
+ * for a kernel stack: a driver then has it beside the table. */
+static enum outcome bind(struct address_space *space, waylluqen_request request)
+{
+    struct table before = space->table;
+    waylluqen_answer answer =
+        waylluqen_bind(space->bounds, space->table.words, LENGTH(space->table.words),
+                       space->table.count, space->operations, LENGTH(space->operations), request);
+    if (answer.refusal != WAYLLUQEN_OK) {
+        print_refusal(answer);
+        return REFUSED;
+    }
+    return finish(space, &before, answer, request.address, request.size);
+}
+
+/* Eight bytes of a record. */
+static uint64_t get(const uint8_t *field)
+{
+    uint64_t value = 0;
+    for (int i = 0; i < 8; i++) {
+        value |= (uint64_t)field[i] << (8 * i); /* little-endian */
+    }
+    return value;
+}
+
+static enum outcome bind_record(struct address_space *space, const uint8_t *record, size_t bytes)
+{
+    struct table before = space->table;
+    waylluqen_answer answer = waylluqen_bind_record(
+        space->bounds, space->table.words, LENGTH(space->table.words), space->table.count,
+        space->operations, LENGTH(space->operations), record, bytes);
+    if (answer.refusal != WAYLLUQEN_OK) {
+        print_refusal(answer);
+        return REFUSED;
+    }
+    /* It is granted, so it has all its bytes. */
+    return finish(space, &before, answer, get(record + WAYLLUQEN_RECORD_ADDR),
+                  get(record + WAYLLUQEN_RECORD_RANGE));
 }
 
 /* Compares each page entry with look-ups of the page's first and last byte. */
@@ -194,7 +276,7 @@ static void compare(struct address_space *space)
 {
     for (uint64_t i = 0; i < 2 * PAGES; i++) {
         uint64_t byte = i % 2 * (PAGE - 1), address = START + i / 2 * PAGE + byte;
-        struct entry entry = space->pages[i / 2];
+        struct entry entry = *entry_of(&space->pages, address);
         waylluqen_translation shown = look_up(space, address);
         if (shown.refusal != WAYLLUQEN_OK || shown.object != entry.object ||
             shown.offset != (entry.object != 0 ? entry.offset + byte : 0)) {
@@ -219,8 +301,8 @@ static void ask(struct address_space *space)
     };
     for (size_t i = 0; i < LENGTH(asked); i++) {
         printf("%s\n", asked[i].what);
-        if (bind(space, asked[i].request).refusal != WAYLLUQEN_OK) {
-            fail("a good request was refused at", asked[i].request.address);
+        if (bind(space, asked[i].request) != CARRIED_OUT) {
+            fail("a good request was not carried out at", asked[i].request.address);
         }
         compare(space);
     }
@@ -264,18 +346,76 @@ static void ask_by_record(struct address_space *space)
     for (size_t i = 0; i < LENGTH(asked); i++) {
         uint8_t record[WAYLLUQEN_RECORD_BYTES];
         struct address_space before = *space;
-        waylluqen_answer answer;
-        int hostile = i > 0;
+        bool hostile = i > 0;
         printf("%s\n", asked[i].what);
         make_record(record, asked[i].request, asked[i].flags);
-        answer = bind_record(space, record, sizeof record - asked[i].missing);
-        if ((answer.refusal != WAYLLUQEN_OK) != hostile) {
-            fail("a record was answered with", answer.refusal);
+        if (bind_record(space, record, sizeof record - asked[i].missing) !=
+            (hostile ? REFUSED : CARRIED_OUT)) {
+            fail("a record was not answered as it should be:", i);
         }
         if (hostile && memcmp(space, &before, sizeof before) != 0) {
-            fail("a refused request changed something:", answer.refusal);
+            fail("a refused request changed something:", i);
         }
         compare(space);
+    }
+}
+
+/* A stray write into the table: the next call tells which mapping it hit. */
+static void ask_with_broken_table(const struct address_space *space)
+{
+    struct address_space broken = *space;
+    waylluqen_request request = {WAYLLUQEN_OP_UNMAP, 0x100000, 1 * PAGE, 0, 0};
+    broken.table.words[2 * WAYLLUQEN_MAPPING_WORDS + WAYLLUQEN_MAPPING_SIZE]++;
+    printf("unmap in a broken table\n");
+    if (bind(&broken, request) != REFUSED) {
+        fail("a broken table was taken at", request.address);
+    }
+}
+
+/* Lets a request fail after no page entry, after one and so on, until it goes through. */
+static void fail_half_way(struct address_space *space, bool by_record, waylluqen_request request)
+{
+    struct table before = space->table;
+    uint8_t record[WAYLLUQEN_RECORD_BYTES];
+    enum outcome outcome;
+    uint64_t failed = 0;
+    make_record(record, request, 0);
+    for (;; failed++) {
+        space->pages.memory = failed;
+        outcome = by_record ? bind_record(space, record, sizeof record) : bind(space, request);
+        compare(space);
+        if (outcome != WENT_BACK) {
+            break;
+        }
+        if (memcmp(&space->table, &before, sizeof before) != 0) {
+            fail("going back left another table at", request.address);
+        }
+    }
+    if (outcome != CARRIED_OUT || failed == 0) {
+        fail("a request did not fail half-way at", request.address);
+    }
+    printf("  failed half-way first, after 0 to %" PRIu64 " page entries: went back each time\n",
+           failed - 1);
+    space->pages.memory = PLENTY;
+}
+
+/* Requests that hit mappings in all ways: in the middle, at an end, wholly, and with keep. */
+static void ask_without_memory(struct address_space *space)
+{
+    static const struct {
+        const char *what;
+        bool by_record;
+        waylluqen_request request;
+    } asked[] = {
+        {"map into the ring", false, {WAYLLUQEN_OP_MAP, 0x102000, 1 * PAGE, TEXTURE, 0}},
+        {"map more of the ring", false, {WAYLLUQEN_OP_MAP, 0x101000, 6 * PAGE, RING, 0}},
+        {"map where nothing is", true, {WAYLLUQEN_OP_MAP, 0x10a000, 2 * PAGE, FRAMEBUFFER, 0}},
+        {"map across three mappings", true, {WAYLLUQEN_OP_MAP, 0x105000, 6 * PAGE, TEXTURE, 0}},
+        {"unmap across two", true, {WAYLLUQEN_OP_UNMAP, 0x104000, 3 * PAGE, 0, 0}},
+    };
+    for (size_t i = 0; i < LENGTH(asked); i++) {
+        printf("%s, at first without memory\n", asked[i].what);
+        fail_half_way(space, asked[i].by_record, asked[i].request);
     }
 }
 
@@ -284,8 +424,8 @@ static void print_space(const struct address_space *space)
 {
     waylluqen_space bounds = space->bounds;
     printf("start     end       pages  object       offset\n");
-    for (uint64_t i = 0; i < space->count; i++) {
-        const uint64_t *mapping = space->table + i * WAYLLUQEN_MAPPING_WORDS;
+    for (uint64_t i = 0; i < space->table.count; i++) {
+        const uint64_t *mapping = space->table.words + i * WAYLLUQEN_MAPPING_WORDS;
         printf(HEX "  " HEX "  %5" PRIu64 "  %-11s  " HEX "\n", mapping[WAYLLUQEN_MAPPING_ADDRESS],
                end_of(mapping), mapping[WAYLLUQEN_MAPPING_SIZE] / PAGE,
                name_of(mapping[WAYLLUQEN_MAPPING_OBJECT]), mapping[WAYLLUQEN_MAPPING_OFFSET]);
@@ -297,9 +437,12 @@ static void print_space(const struct address_space *space)
 int main(void)
 {
     static const uint64_t addresses[] = {0x100fff, 0x102010, 0x105000, 0x108000};
-    struct address_space space = {.bounds = {START, PAGES * PAGE, START + 14 * PAGE, 2 * PAGE}};
+    struct address_space space = {.bounds = {START, PAGES * PAGE, START + 14 * PAGE, 2 * PAGE},
+                                  .pages.memory = PLENTY};
     ask(&space);
     ask_by_record(&space);
+    ask_with_broken_table(&space);
+    ask_without_memory(&space);
     print_space(&space);
     for (size_t i = 0; i < LENGTH(addresses); i++) {
         waylluqen_translation shown = look_up(&space, addresses[i]);

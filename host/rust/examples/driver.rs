@@ -1,20 +1,24 @@
 // SPDX-License-Identifier: MIT
 //! An example driver: it keeps one address space and carries each operation out on a page table,
-//! here an array. host/c/driver.c is the same in C. Both print what host/driver.out has, and end
-//! with 1 if a page entry is not what look-ups say.
+//! here an array. Where that fails half-way, it goes back. host/c/driver.c is the same in C. Both
+//! print what host/driver.out has, and end with 1 if a page entry is not what look-ups say.
 //!
 //! After `rt staticlib waylluqen` at the repository's root, `cargo run --example driver` in
 //! host/rust.
 
 use std::error::Error;
+use std::fmt;
 use std::process::ExitCode;
 use waylluqen::{operation_list_words, table_words, Mapping, Operation, Operations, Refusal};
-use waylluqen::{Request, Rests, Space, Table, Translation, PAGE_SIZE as PAGE, RECORD_BYTES};
+use waylluqen::{Request, Rests, Space, Table, Translation, View};
+use waylluqen::{PAGE_SIZE as PAGE, RECORD_BYTES};
 
 const START: u64 = 0x10_0000;
 const PAGES: usize = 16;
 const CAPACITY: usize = 8;
+const TABLE_WORDS: usize = table_words(CAPACITY);
 const LIST_WORDS: usize = operation_list_words(CAPACITY);
+const PLENTY: u64 = u64::MAX;
 
 const FRAMEBUFFER: u64 = 1;
 const TEXTURE: u64 = 2;
@@ -23,25 +27,70 @@ const RING: u64 = 3;
 /// What a page's first byte shows, if that is something.
 type Entry = Option<Translation>;
 
+/// Stands for the page table that the GPU reads.
+#[derive(Clone, PartialEq)]
+struct PageTable {
+    entries: [Entry; PAGES],
+    /// How many entries can be changed until there is no memory; a simulation.
+    memory: u64,
+}
+
+/// A table's words and their count: they change together, so they are copied together.
+#[derive(Clone, Copy, PartialEq)]
+struct Stored {
+    words: [u64; TABLE_WORDS],
+    count: u64,
+}
+
 /// All that a driver keeps for one address space.
-struct AddressSpace<'a> {
+#[derive(Clone, PartialEq)]
+struct AddressSpace {
     bounds: Space,
-    table: Table<'a>,
+    table: Stored,
     operations: [u64; LIST_WORDS],
-    /// Stands for the page table that the GPU reads.
-    pages: [Entry; PAGES],
+    pages: PageTable,
     /// How often the pages were compared with look-ups.
     compared: u64,
 }
 
-/// How many page entries a request clears, keeps and writes, and where the kept ones end.
+/// The pages that a request changes, `[start, end)`: its range but for the pages that are kept at
+/// its front. And how many page entries it clears, keeps and writes.
 #[derive(Default)]
 struct Walk {
+    start: u64,
+    end: u64,
     cleared: u64,
     kept: u64,
     written: u64,
-    kept_end: u64,
 }
+
+/// There is no memory for a page entry, as where a large page would have to be split first.
+struct NoMemory;
+
+/// Why a request was not carried out. All is as it was.
+#[derive(Debug, PartialEq)]
+enum Failure {
+    Refused(Refusal),
+    /// Carrying it out failed half-way.
+    WentBack,
+}
+
+impl From<Refusal> for Failure {
+    fn from(refusal: Refusal) -> Failure {
+        Failure::Refused(refusal)
+    }
+}
+
+impl fmt::Display for Failure {
+    fn fmt(&self, f: &mut fmt::Formatter<'_>) -> fmt::Result {
+        match self {
+            Failure::Refused(refusal) => write!(f, "refused: {refusal}"),
+            Failure::WentBack => write!(f, "failed half-way: went back"),
+        }
+    }
+}
+
+impl Error for Failure {}
 
 fn name_of(object: u64) -> &'static str {
     match object {
@@ -62,94 +111,150 @@ fn print_mapping(what: &str, mapping: Mapping) {
     println!("{what:<14} [{start:#x}, {end:#x}) {name}+{offset:#x}");
 }
 
-fn index(address: u64) -> usize {
-    ((address - START) / PAGE) as usize
-}
-
-/// Writes the new mapping's entries, but for those that were kept: they are right already.
-fn map(pages: &mut [Entry; PAGES], walk: &mut Walk, new: Mapping) {
-    let start = new.address.max(walk.kept_end);
-    for at in (start..end_of(new)).step_by(PAGE as usize) {
-        let (object, offset) = (new.object, new.offset + (at - new.address));
-        pages[index(at)] = Some(Translation { object, offset });
-        walk.written += 1;
-    }
-}
-
-/// Clears `[start, end)`, which an old mapping loses. With keep nothing is cleared: the new mapping
-/// starts with the same address, object and offset, so that it shows the same up to the end.
-fn unmap(pages: &mut [Entry; PAGES], walk: &mut Walk, keep: bool, start: u64, end: u64) {
-    if keep {
-        walk.kept = (end - start) / PAGE;
-        walk.kept_end = end;
-        return;
-    }
-    for at in (start..end).step_by(PAGE as usize) {
-        pages[index(at)] = None;
-        walk.cleared += 1;
-    }
-}
-
-fn carry_out(pages: &mut [Entry; PAGES], walk: &mut Walk, operation: Operation) {
+fn print_operation(operation: Operation) {
     match operation {
-        Operation::Map(new) => {
-            print_mapping("  map", new);
-            map(pages, walk, new);
-        }
-        // The mapping loses what is between its rests.
+        Operation::Map(new) => print_mapping("  map", new),
         Operation::Remap { old, rests, keep } => {
             print_mapping(if keep { "  remap, keep" } else { "  remap" }, old);
-            let (mut start, mut end) = (old.address, end_of(old));
             if let Rests::Lower(lower) | Rests::Both { lower, .. } = rests {
                 print_mapping("    lower rest", lower);
-                start = end_of(lower);
             }
             if let Rests::Upper(upper) | Rests::Both { upper, .. } = rests {
                 print_mapping("    upper rest", upper);
-                end = upper.address;
             }
-            unmap(pages, walk, keep, start, end);
         }
         Operation::Unmap { old, keep } => {
             print_mapping(if keep { "  unmap, keep" } else { "  unmap" }, old);
-            unmap(pages, walk, keep, old.address, end_of(old));
         }
     }
 }
 
-/// Carries a grant's operations out in order; then a driver flushes the GPU's TLB.
-fn finish(pages: &mut [Entry; PAGES], operations: Operations<'_>) {
-    let mut walk = Walk::default();
-    for operation in operations {
-        carry_out(pages, &mut walk, operation);
+impl PageTable {
+    fn entry(&mut self, address: u64) -> &mut Entry {
+        &mut self.entries[((address - START) / PAGE) as usize]
     }
-    let (cleared, kept, written) = (walk.cleared, walk.kept, walk.written);
-    println!("  page entries: {cleared} cleared, {kept} kept, {written} written");
+
+    fn change(&mut self, address: u64, entry: Entry) -> Result<(), NoMemory> {
+        self.memory = self.memory.checked_sub(1).ok_or(NoMemory)?;
+        *self.entry(address) = entry;
+        Ok(())
+    }
+
+    /// Writes the new mapping's entries, but for those that were kept: they are right already.
+    fn map(&mut self, walk: &mut Walk, new: Mapping) -> Result<(), NoMemory> {
+        for at in (walk.start..end_of(new)).step_by(PAGE as usize) {
+            let (object, offset) = (new.object, new.offset + (at - new.address));
+            self.change(at, Some(Translation { object, offset }))?;
+            walk.written += 1;
+        }
+        Ok(())
+    }
+
+    /// Clears `[start, end)`, which an old mapping loses. With keep nothing is cleared: the new
+    /// mapping starts with the same address, object and offset, so that it shows the same up to the
+    /// end.
+    fn unmap(&mut self, walk: &mut Walk, keep: bool, start: u64, end: u64) -> Result<(), NoMemory> {
+        if keep {
+            walk.kept = (end - start) / PAGE;
+            walk.start = end;
+            return Ok(());
+        }
+        for at in (start..end).step_by(PAGE as usize) {
+            self.change(at, None)?;
+            walk.cleared += 1;
+        }
+        Ok(())
+    }
+
+    fn carry_out(&mut self, walk: &mut Walk, operation: Operation) -> Result<(), NoMemory> {
+        match operation {
+            Operation::Map(new) => self.map(walk, new),
+            // The mapping loses what is between its rests.
+            Operation::Remap { old, rests, keep } => {
+                let (start, end) = match rests {
+                    Rests::Lower(lower) => (end_of(lower), end_of(old)),
+                    Rests::Upper(upper) => (old.address, upper.address),
+                    Rests::Both { lower, upper } => (end_of(lower), upper.address),
+                };
+                self.unmap(walk, keep, start, end)
+            }
+            Operation::Unmap { old, keep } => self.unmap(walk, keep, old.address, end_of(old)),
+        }
+    }
+
+    /// Carries a grant's operations out in order; then a driver flushes the GPU's TLB.
+    fn finish(&mut self, walk: &mut Walk, operations: Operations<'_>) -> Result<(), NoMemory> {
+        for operation in operations.clone() {
+            self.carry_out(walk, operation)?;
+        }
+        operations.for_each(print_operation);
+        let (cleared, kept, written) = (walk.cleared, walk.kept, walk.written);
+        println!("  page entries: {cleared} cleared, {kept} kept, {written} written");
+        Ok(())
+    }
 }
 
-impl AddressSpace<'_> {
-    fn bind(&mut self, request: Request) -> Result<(), Refusal> {
-        let list = &mut self.operations;
-        let operations = self.table.bind(self.bounds, request, list)?;
-        finish(&mut self.pages, operations);
-        Ok(())
+impl Walk {
+    fn over(address: u64, size: u64) -> Walk {
+        Walk {
+            start: address,
+            end: address + size,
+            ..Walk::default()
+        }
+    }
+}
+
+impl Stored {
+    fn view(&self) -> View<'_> {
+        View::new(&self.words, self.count)
+    }
+}
+
+impl AddressSpace {
+    /// The copy is 32 bytes for each mapping that there is room for. With room for 512 that is too
+    /// much for a kernel stack: a driver then has it beside the table.
+    fn bind(&mut self, request: Request) -> Result<(), Failure> {
+        let before = self.table;
+        let mut table = Table::with_count(&mut self.table.words, self.table.count);
+        let operations = table.bind(self.bounds, request, &mut self.operations)?;
+        self.table.count = table.count();
+        let mut walk = Walk::over(request.address, request.size);
+        let done = self.pages.finish(&mut walk, operations);
+        done.map_err(|NoMemory| self.go_back(before, walk))
     }
 
-    fn bind_record(&mut self, record: &[u8]) -> Result<(), Refusal> {
-        let list = &mut self.operations;
-        let operations = self.table.bind_record(self.bounds, record, list)?;
-        finish(&mut self.pages, operations);
-        Ok(())
+    fn bind_record(&mut self, record: &[u8]) -> Result<(), Failure> {
+        let before = self.table;
+        let mut table = Table::with_count(&mut self.table.words, self.table.count);
+        let operations = table.bind_record(self.bounds, record, &mut self.operations)?;
+        self.table.count = table.count();
+        // It is granted, so it has all its bytes; these are addr and range.
+        let mut walk = Walk::over(get(record, 16), get(record, 32));
+        let done = self.pages.finish(&mut walk, operations);
+        done.map_err(|NoMemory| self.go_back(before, walk))
+    }
+
+    /// Takes back what failed half-way: the table by its copy, and the entries by look-ups in it.
+    /// Only pages of the range can have changed, and none that was kept. No memory is needed for
+    /// what was there before, if the page table gives none back until all is carried out. Then a
+    /// driver flushes the TLB here too.
+    fn go_back(&mut self, before: Stored, walk: Walk) -> Failure {
+        self.table = before;
+        for at in (walk.start..walk.end).step_by(PAGE as usize) {
+            let shown = self.look_up(at).expect("the bind took this table");
+            *self.pages.entry(at) = shown;
+        }
+        Failure::WentBack
     }
 
     fn look_up(&self, address: u64) -> Result<Option<Translation>, Refusal> {
-        self.table.lookup(self.bounds, address)
+        self.table.view().lookup(self.bounds, address)
     }
 
     /// Compares each page entry with look-ups of the page's first and last byte.
     fn compare(&mut self) -> Result<(), Box<dyn Error>> {
         for address in (0..2 * PAGES as u64).map(|i| START + i / 2 * PAGE + i % 2 * (PAGE - 1)) {
-            let mut expected = self.pages[index(address)];
+            let mut expected = *self.pages.entry(address);
             if let Some(shown) = &mut expected {
                 shown.offset += address % PAGE;
             }
@@ -162,16 +267,10 @@ impl AddressSpace<'_> {
         Ok(())
     }
 
-    /// A copy of what a refused request has to leave alone.
-    fn copy(&self) -> (Vec<u64>, u64, [u64; LIST_WORDS], [Entry; PAGES]) {
-        let (table, count) = (self.table.words().to_vec(), self.table.count());
-        (table, count, self.operations, self.pages)
-    }
-
     /// What a debugfs file would show.
     fn print(&self) {
         println!("start     end       pages  object       offset");
-        for mapping in self.table.mappings() {
+        for mapping in self.table.view().mappings() {
             let (start, end, pages) = (mapping.address, end_of(mapping), mapping.size / PAGE);
             let (name, offset) = (name_of(mapping.object), mapping.offset);
             println!("{start:#x}  {end:#x}  {pages:5}  {name:11}  {offset:#x}");
@@ -183,7 +282,7 @@ impl AddressSpace<'_> {
 }
 
 /// Requests by numbers, as a driver makes them itself.
-fn ask(space: &mut AddressSpace<'_>) -> Result<(), Box<dyn Error>> {
+fn ask(space: &mut AddressSpace) -> Result<(), Box<dyn Error>> {
     let framebuffer = Request::map(0x10_0000, 8 * PAGE, FRAMEBUFFER, 0);
     let texture = Request::map(0x10_2000, 2 * PAGE, TEXTURE, 0x5000);
     let longer = Request::map(0x10_2000, 4 * PAGE, TEXTURE, 0x5000);
@@ -202,6 +301,12 @@ fn ask(space: &mut AddressSpace<'_>) -> Result<(), Box<dyn Error>> {
     Ok(())
 }
 
+/// The eight bytes of a record's field, little-endian.
+fn get(record: &[u8], at: usize) -> u64 {
+    let bytes = record[at..].iter().take(8).rev();
+    bytes.fold(0, |value, &byte| (value << 8) | u64::from(byte))
+}
+
 /// The 40 bytes, little-endian, with the fields where `enum waylluqen_record_byte` has them.
 fn make_record(request: Request, flags: u64) -> [u8; RECORD_BYTES] {
     let mut record = [0; RECORD_BYTES];
@@ -218,7 +323,7 @@ fn make_record(request: Request, flags: u64) -> [u8; RECORD_BYTES] {
 }
 
 /// Requests by records, as programs hand them over in an ioctl: a good one, then hostile ones.
-fn ask_by_record(space: &mut AddressSpace<'_>) -> Result<(), Box<dyn Error>> {
+fn ask_by_record(space: &mut AddressSpace) -> Result<(), Box<dyn Error>> {
     println!("map the ring");
     let ring = Request::map(0x10_1000, 3 * PAGE, RING, 0);
     space.bind_record(&make_record(ring, 0))?;
@@ -237,12 +342,12 @@ fn ask_by_record(space: &mut AddressSpace<'_>) -> Result<(), Box<dyn Error>> {
         ("unmap by 39 bytes", &make_record(unmap, 0)[..39]),
     ] {
         println!("{what}");
-        let before = space.copy();
-        let Err(refusal) = space.bind_record(record) else {
+        let before = space.clone();
+        let Err(failure) = space.bind_record(record) else {
             return Err("a hostile request was granted".into());
         };
-        println!("  refused: {refusal}");
-        if space.copy() != before {
+        println!("  {failure}");
+        if *space != before {
             return Err("a refused request changed something".into());
         }
         space.compare()?;
@@ -250,17 +355,85 @@ fn ask_by_record(space: &mut AddressSpace<'_>) -> Result<(), Box<dyn Error>> {
     Ok(())
 }
 
+/// A stray write into the table: the next call tells which mapping it hit.
+fn ask_with_broken_table(space: &AddressSpace) -> Result<(), Box<dyn Error>> {
+    let mut broken = space.clone();
+    broken.table.words[table_words(2) + 1] += 1;
+    println!("unmap in a broken table");
+    let Err(failure) = broken.bind(Request::unmap(0x10_0000, PAGE)) else {
+        return Err("a broken table was taken".into());
+    };
+    println!("  {failure}");
+    Ok(())
+}
+
+/// Lets a request fail after no page entry, after one and so on, until it goes through.
+fn fail_half_way(
+    space: &mut AddressSpace,
+    bind: impl Fn(&mut AddressSpace) -> Result<(), Failure>,
+) -> Result<(), Box<dyn Error>> {
+    let before = space.table;
+    let mut failed = 0;
+    loop {
+        space.pages.memory = failed;
+        let done = bind(space);
+        space.compare()?;
+        if done != Err(Failure::WentBack) {
+            done?;
+            break;
+        }
+        if space.table != before {
+            return Err("going back left another table".into());
+        }
+        failed += 1;
+    }
+    let last = failed
+        .checked_sub(1)
+        .ok_or("a request did not fail half-way")?;
+    println!("  failed half-way first, after 0 to {last} page entries: went back each time");
+    space.pages.memory = PLENTY;
+    Ok(())
+}
+
+/// Requests that hit mappings in all ways: in the middle, at an end, wholly, and with keep.
+fn ask_without_memory(space: &mut AddressSpace) -> Result<(), Box<dyn Error>> {
+    let into = Request::map(0x10_2000, PAGE, TEXTURE, 0);
+    let more = Request::map(0x10_1000, 6 * PAGE, RING, 0);
+    for (what, request) in [("map into the ring", into), ("map more of the ring", more)] {
+        println!("{what}, at first without memory");
+        fail_half_way(space, |space| space.bind(request))?;
+    }
+    let elsewhere = Request::map(0x10_a000, 2 * PAGE, FRAMEBUFFER, 0);
+    let between = Request::map(0x10_5000, 6 * PAGE, TEXTURE, 0);
+    for (what, request) in [
+        ("map where nothing is", elsewhere),
+        ("map across three mappings", between),
+        ("unmap across two", Request::unmap(0x10_4000, 3 * PAGE)),
+    ] {
+        println!("{what}, at first without memory");
+        fail_half_way(space, |space| space.bind_record(&make_record(request, 0)))?;
+    }
+    Ok(())
+}
+
 fn run() -> Result<(), Box<dyn Error>> {
-    let mut words = [0; table_words(CAPACITY)];
     let mut space = AddressSpace {
         bounds: Space::new(START, PAGES as u64 * PAGE).reserving(START + 14 * PAGE, 2 * PAGE),
-        table: Table::empty(&mut words),
+        table: Stored {
+            words: [0; TABLE_WORDS],
+            count: 0,
+        },
         operations: [0; LIST_WORDS],
-        pages: [None; PAGES],
+        pages: PageTable {
+            entries: [None; PAGES],
+            memory: PLENTY,
+        },
         compared: 0,
     };
     ask(&mut space)?;
     ask_by_record(&mut space)?;
+    ask_with_broken_table(&space)?;
+    ask_without_memory(&mut space)?;
     space.print();
     for address in [0x10_0fff, 0x10_2010, 0x10_5000, 0x10_8000] {
         match space.look_up(address)? {

@@ -3,9 +3,9 @@
 //!
 //! A driver lends words for a [`Table`] of mappings and words for a list of operations. To map or
 //! unmap a range it asks [`Table::bind`], which cuts what is mapped there out of the table and
-//! gives the operations to carry out; [`Table::lookup`] tells what an address shows. Nothing is
-//! asked of the words and the numbers: a table or a request that breaks a rule is refused with a
-//! [`Refusal`], and then no lent word has changed.
+//! gives the operations to carry out; [`Table::lookup`] tells what an address shows, and so does a
+//! [`View`], a table by shared borrow. Nothing is asked of the words and the numbers: a table or a
+//! request that breaks a rule is refused with a [`Refusal`], and then no lent word has changed.
 //!
 //! The work is done by a proved static library; this crate gives it a safe Rust interface.
 //!
@@ -42,13 +42,15 @@ mod refusal;
 mod request;
 mod space;
 mod table;
+mod view;
 
 pub use mapping::Mapping;
 pub use operation::{Operation, Operations, Rests};
 pub use refusal::Refusal;
 pub use request::{check_request, Request};
 pub use space::Space;
-pub use table::{Table, Translation};
+pub use table::Table;
+pub use view::{Translation, View};
 
 /// The size of a page in bytes: addresses, sizes and offsets are multiples of it.
 ///

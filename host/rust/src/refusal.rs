@@ -17,6 +17,9 @@ use core::fmt;
 /// let refusal = table.bind(space, Request::map(0xe000, 0x2000, 7, 0), &mut list).unwrap_err();
 /// assert_eq!(refusal, Refusal::Reserved);
 /// assert_eq!(refusal.to_string(), "the range shares a byte with the reservation");
+///
+/// let text = Refusal::BadMapping { place: 3 }.to_string();
+/// assert_eq!(text, "a mapping in the table breaks its rules (place 3)");
 /// ```
 #[derive(Clone, Copy, Debug, PartialEq, Eq, Hash)]
 #[non_exhaustive]
@@ -122,7 +125,7 @@ impl fmt::Display for Refusal {
             Refusal::ShortOperations => "there are too few operation words",
             Refusal::BadCount => "the count is above the table's capacity",
             Refusal::BadMapping { place } => {
-                return write!(f, "mapping {place} in the table breaks its rules");
+                return write!(f, "a mapping in the table breaks its rules (place {place})");
             }
             Refusal::Unaligned => "an address, size or offset is not a multiple of a page",
             Refusal::OutsideSpace => "the range is not inside the space",

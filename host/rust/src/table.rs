@@ -1,24 +1,6 @@
 //! A table of mappings in lent words.
 
-use crate::{ffi, Mapping, Operations, Refusal, Request, Space, MAPPING_WORDS};
-
-/// The byte of an object that an address shows.
-///
-/// ```
-/// use waylluqen::{Space, Table, Translation};
-///
-/// let mut words = [0x1000, 0x2000, 7, 0x5000];
-/// let table = Table::with_count(&mut words, 1);
-/// let shown = Translation { object: 7, offset: 0x6008 };
-/// assert_eq!(table.lookup(Space::new(0, 0x1_0000), 0x2008), Ok(Some(shown)));
-/// ```
-#[derive(Clone, Copy, Debug, PartialEq, Eq, Hash)]
-pub struct Translation {
-    /// The object, from 1 to [`MAX_OBJECT`](crate::MAX_OBJECT).
-    pub object: u64,
-    /// The byte's offset in it.
-    pub offset: u64,
-}
+use crate::{ffi, Mapping, Operations, Refusal, Request, Space, Translation, View};
 
 /// The mappings of a space, in lent words, and their count.
 ///
@@ -76,6 +58,23 @@ impl<'a> Table<'a> {
         Table { words, count }
     }
 
+    /// The table by shared borrow.
+    ///
+    /// ```
+    /// use waylluqen::{Space, Table, Translation};
+    ///
+    /// let mut words = [0x1000, 0x1000, 7, 0, 0x4000, 0x2000, 8, 0];
+    /// let table = Table::with_count(&mut words, 2);
+    /// let (one, other) = (table.view(), table.view());
+    /// assert_eq!((one.count(), other.count()), (2, 2));
+    /// let shown = Translation { object: 8, offset: 0x1000 };
+    /// assert_eq!(one.lookup(Space::new(0, 0x1_0000), 0x5000), Ok(Some(shown)));
+    /// ```
+    #[inline]
+    pub fn view(&self) -> View<'_> {
+        View::new(self.words, self.count)
+    }
+
     /// How many mappings there are.
     ///
     /// ```
@@ -83,7 +82,7 @@ impl<'a> Table<'a> {
     /// assert_eq!(waylluqen::Table::empty(&mut words).count(), 0);
     /// ```
     pub fn count(&self) -> u64 {
-        self.count
+        self.view().count()
     }
 
     /// How many mappings there is room for.
@@ -93,7 +92,7 @@ impl<'a> Table<'a> {
     /// assert_eq!(waylluqen::Table::empty(&mut words).capacity(), 8);
     /// ```
     pub fn capacity(&self) -> usize {
-        self.words.len() / MAPPING_WORDS
+        self.view().capacity()
     }
 
     /// The lent words.
@@ -104,7 +103,7 @@ impl<'a> Table<'a> {
     /// assert_eq!(table.words(), [0x1000, 0x2000, 7, 0]);
     /// ```
     pub fn words(&self) -> &[u64] {
-        self.words
+        self.view().words()
     }
 
     /// The mappings as they stand, unchecked: no more than the count, and no more than there is
@@ -118,13 +117,7 @@ impl<'a> Table<'a> {
     /// assert!(table.mappings().eq([Mapping::from([0x1000, 0x2000, 7, 0])]));
     /// ```
     pub fn mappings(&self) -> impl Iterator<Item = Mapping> + '_ {
-        let count = usize::try_from(self.count).unwrap_or(usize::MAX);
-        let mapping = |words: &[u64]| {
-            let words: [u64; MAPPING_WORDS] = words.try_into().ok()?;
-            Some(Mapping::from(words))
-        };
-        let words = self.words.chunks_exact(MAPPING_WORDS).take(count);
-        words.filter_map(mapping)
+        self.view().mappings()
     }
 
     /// Tells what the byte at `address` shows; `None` for one that is in no mapping, also outside
@@ -148,13 +141,7 @@ impl<'a> Table<'a> {
     /// ```
     #[inline]
     pub fn lookup(&self, space: Space, address: u64) -> Result<Option<Translation>, Refusal> {
-        let answer = ffi::lookup(space, self.words, self.count, address);
-        Refusal::check(answer.refusal, answer.place)?;
-        let shown = Translation {
-            object: answer.object,
-            offset: answer.offset,
-        };
-        Ok((answer.mapped != 0).then_some(shown))
+        self.view().lookup(space, address)
     }
 
     /// Maps or unmaps a range, and gives the operations for it, which it writes to the lent

@@ -1,5 +1,7 @@
 //! Compares the library's look-up to the model's, input by input.
 
+use std::thread;
+use waylluqen::View;
 use waylluqen_compare::calls::{Caller, Way};
 use waylluqen_compare::library::{self, Shown};
 use waylluqen_compare::numbers::{
@@ -204,6 +206,32 @@ fn lengths_and_counts() {
     let [space, ..] = plain_spaces();
     let refused = waylluqen::Table::empty(&mut []).lookup(library::space(&space), 0);
     assert_eq!(refused, library::shown(lookup(&space, &[], 0, 0)));
+}
+
+/// Look-ups in one view from several threads, beside each other.
+#[test]
+fn views_of_several_threads() {
+    const THREADS: u64 = 4;
+    let mut random = Random::new(91);
+    for space in plain_spaces() {
+        let good = fill_space(&mut random, space, 100);
+        let (words, count) = (good.words(&mut random, 3), good.mappings.len() as u64);
+        let view = View::new(&words, count);
+        let look_up = |view: View<'_>, seed: u64| {
+            let mut random = Random::new(seed);
+            for _ in 0..10_000 {
+                let address = any_address(&mut random, &good);
+                let model = lookup(&space, &words, count, address);
+                let answer = view.lookup(library::space(&space), address);
+                assert_eq!(answer, library::shown(model), "at {address:#x}");
+            }
+        };
+        thread::scope(|scope| {
+            for seed in 92..92 + THREADS {
+                scope.spawn(move || look_up(view, seed));
+            }
+        });
+    }
 }
 
 #[test]

@@ -10,6 +10,8 @@ use waylluqen_compare::requests::MAP;
 use waylluqen_compare::tables::Table;
 use waylluqen_model::{Record, PAGE};
 
+const HEADER: &str = include_str!("../../../include/waylluqen.h");
+
 /// A request on a table with one mapping and no more room.
 struct Case {
     table: Table,
@@ -102,5 +104,50 @@ fn errors() {
         assert!(error.source().is_none());
         let boxed: Box<dyn Error + Send + Sync> = Box::from(refusal);
         assert_eq!(boxed.downcast_ref(), Some(&refusal));
+    }
+}
+
+/// The header's list of refusals: behind `WAYLLUQEN_REFUSED_` the name, then the text.
+fn listed() -> Vec<(&'static str, &'static str)> {
+    let start = "#define WAYLLUQEN_REFUSALS(X) \\\n";
+    let (_, list) = HEADER.split_once(start).expect("the header has the list");
+    let (list, _) = list.split_once("\n\n").expect("a blank line ends it");
+    let entry = |line: &'static str| {
+        let line = line.trim_end_matches(" \\");
+        let entry = line.strip_prefix("    X(WAYLLUQEN_REFUSED_")?;
+        entry.strip_suffix("\")")?.split_once(", \"")
+    };
+    let entries: Option<_> = list.lines().map(entry).collect();
+    entries.expect("each line is a name and a text")
+}
+
+/// The name of a refusal in C: `BadSpace` is `BAD_SPACE`.
+fn name_in_c(refusal: Refusal) -> String {
+    let value = format!("{refusal:?}");
+    let letters = value.chars().take_while(|&letter| letter != ' ');
+    let mut name = String::new();
+    for letter in letters {
+        if letter.is_uppercase() && !name.is_empty() {
+            name.push('_');
+        }
+        name.push(letter.to_ascii_uppercase());
+    }
+    name
+}
+
+#[test]
+fn in_the_header() {
+    let (refusals, listed) = (all_refusals(), listed());
+    assert_eq!(listed.len(), refusals.len());
+    for (refusal, (name, text)) in refusals.into_iter().zip(listed) {
+        assert_eq!(name, name_in_c(refusal));
+        let number = format!("    WAYLLUQEN_REFUSED_{name} = {}", refusal.number());
+        let is_number = |line: &str| line.trim_end_matches(',') == number;
+        assert!(HEADER.lines().any(is_number), "there is no{number}");
+        let place = match refusal {
+            Refusal::BadMapping { place } => format!(" (place {place})"),
+            _ => String::new(),
+        };
+        assert_eq!(refusal.to_string(), format!("{text}{place}"));
     }
 }

@@ -17,7 +17,12 @@ fn compare(table: &Table) -> usize {
     assert_eq!((lent.count(), lent.capacity()), (*count, capacity));
     assert_eq!(lent.words(), words);
     let mappings = places.map(|place| library::mapping(mapping_at(words, place)));
-    assert!(lent.mappings().eq(mappings));
+    assert!(lent.mappings().eq(mappings.clone()));
+    for view in [lent.view(), waylluqen::View::new(words, *count)] {
+        assert_eq!((view.count(), view.capacity()), (*count, capacity));
+        assert_eq!(view.words(), words);
+        assert!(view.mappings().eq(mappings.clone()));
+    }
     number
 }
 

@@ -1,0 +1,158 @@
+//! A table by shared borrow: all that can be asked of its words without a change.
+
+use crate::{ffi, Mapping, Refusal, Space, MAPPING_WORDS};
+
+/// The byte of an object that an address shows.
+///
+/// ```
+/// use waylluqen::{Space, Translation, View};
+///
+/// let view = View::new(&[0x1000, 0x2000, 7, 0x5000], 1);
+/// let shown = Translation { object: 7, offset: 0x6008 };
+/// assert_eq!(view.lookup(Space::new(0, 0x1_0000), 0x2008), Ok(Some(shown)));
+/// ```
+#[derive(Clone, Copy, Debug, PartialEq, Eq, Hash)]
+pub struct Translation {
+    /// The object, from 1 to [`MAX_OBJECT`](crate::MAX_OBJECT).
+    pub object: u64,
+    /// The byte's offset in it.
+    pub offset: u64,
+}
+
+/// The mappings of a space by shared borrow: the words and the count of a
+/// [`Table`](crate::Table), to look up in and to walk over.
+///
+/// It is for words that something else owns, and for look-ups beside each other: it can be copied
+/// and sent to other threads, and no table changes while one is in use.
+///
+/// ```
+/// use std::thread;
+/// use waylluqen::{Space, Table, Translation};
+///
+/// let space = Space::new(0, 0x1_0000);
+/// let mut words = [0x1000, 0x1000, 7, 0, 0x4000, 0x2000, 8, 0];
+/// let table = Table::with_count(&mut words, 2);
+/// let view = table.view();
+/// let found = thread::scope(|scope| {
+///     let one = scope.spawn(|| view.lookup(space, 0x1008));
+///     let other = scope.spawn(|| view.lookup(space, 0x5008));
+///     (one.join().unwrap(), other.join().unwrap())
+/// });
+/// assert_eq!(found.0, Ok(Some(Translation { object: 7, offset: 8 })));
+/// assert_eq!(found.1, Ok(Some(Translation { object: 8, offset: 0x1008 })));
+/// ```
+#[derive(Clone, Copy, Debug)]
+pub struct View<'a> {
+    words: &'a [u64],
+    count: u64,
+}
+
+impl<'a> View<'a> {
+    /// The table of `count` mappings that the words hold. Any words and any count are allowed;
+    /// each look-up checks them.
+    ///
+    /// ```
+    /// use waylluqen::{Space, View};
+    ///
+    /// struct AddressSpace {
+    ///     bounds: Space,
+    ///     words: Vec<u64>,
+    ///     count: u64,
+    /// }
+    ///
+    /// impl AddressSpace {
+    ///     fn is_mapped(&self, address: u64) -> bool {
+    ///         let view = View::new(&self.words, self.count);
+    ///         matches!(view.lookup(self.bounds, address), Ok(Some(_)))
+    ///     }
+    /// }
+    ///
+    /// let words = vec![0x1000, 0x1000, 7, 0];
+    /// let space = AddressSpace { bounds: Space::new(0, 0x1_0000), words, count: 1 };
+    /// assert!(space.is_mapped(0x1fff) && !space.is_mapped(0x2000));
+    /// ```
+    #[inline]
+    pub const fn new(words: &'a [u64], count: u64) -> View<'a> {
+        View { words, count }
+    }
+
+    /// How many mappings there are.
+    ///
+    /// ```
+    /// assert_eq!(waylluqen::View::new(&[0x1000, 0x2000, 7, 0], 1).count(), 1);
+    /// ```
+    #[inline]
+    pub const fn count(self) -> u64 {
+        self.count
+    }
+
+    /// How many mappings there is room for.
+    ///
+    /// ```
+    /// assert_eq!(waylluqen::View::new(&[0; 32], 0).capacity(), 8);
+    /// ```
+    #[inline]
+    pub const fn capacity(self) -> usize {
+        self.words.len() / MAPPING_WORDS
+    }
+
+    /// The words, for as long as they are lent.
+    ///
+    /// ```
+    /// let words = [0x1000, 0x2000, 7, 0];
+    /// let same = waylluqen::View::new(&words, 1).words();
+    /// assert_eq!(same, words);
+    /// ```
+    #[inline]
+    pub const fn words(self) -> &'a [u64] {
+        self.words
+    }
+
+    /// The mappings as they stand, unchecked: no more than the count, and no more than there is
+    /// room for.
+    ///
+    /// ```
+    /// use waylluqen::{Mapping, View};
+    ///
+    /// let view = View::new(&[0x1000, 0x2000, 7, 0, 0, 0, 0, 0], 1);
+    /// assert!(view.mappings().eq([Mapping::from([0x1000, 0x2000, 7, 0])]));
+    /// ```
+    pub fn mappings(self) -> impl Iterator<Item = Mapping> + 'a {
+        let count = usize::try_from(self.count).unwrap_or(usize::MAX);
+        let mapping = |words: &[u64]| {
+            let words: [u64; MAPPING_WORDS] = words.try_into().ok()?;
+            Some(Mapping::from(words))
+        };
+        let words = self.words.chunks_exact(MAPPING_WORDS).take(count);
+        words.filter_map(mapping)
+    }
+
+    /// Tells what the byte at `address` shows; `None` for one that is in no mapping, also outside
+    /// the space.
+    ///
+    /// # Errors
+    ///
+    /// The first of [`BadSpace`](Refusal::BadSpace), [`BadTableLength`](Refusal::BadTableLength),
+    /// [`BadCount`](Refusal::BadCount) and [`BadMapping`](Refusal::BadMapping) that applies.
+    ///
+    /// ```
+    /// use waylluqen::{Refusal, Space, Translation, View};
+    ///
+    /// let space = Space::new(0, 0x1_0000);
+    /// let view = View::new(&[0x1000, 0x2000, 7, 0x5000, 0, 0, 0, 0], 1);
+    /// let shown = Translation { object: 7, offset: 0x6008 };
+    /// assert_eq!(view.lookup(space, 0x2008), Ok(Some(shown)));
+    /// assert_eq!(view.lookup(space, 0x3000), Ok(None));
+    /// assert_eq!(view.lookup(Space::new(1, 2), 0x3000), Err(Refusal::BadSpace));
+    /// ```
+    #[inline]
+    pub fn lookup(self, space: Space, address: u64) -> Result<Option<Translation>, Refusal> {
+        let answer = ffi::lookup(space, self.words, self.count, address);
+        Refusal::check(answer.refusal, answer.place)?;
+        let shown = Translation {
+            object: answer.object,
+            offset: answer.offset,
+        };
+        Ok((answer.mapped != 0).then_some(shown))
+    }
+}
