@@ -7,7 +7,8 @@ mod text;
 use std::ffi::{OsStr, OsString};
 use std::os::unix::ffi::OsStrExt;
 use std::process::ExitCode;
-use waylluqen_assemble::stream::{read, reason, tell, write};
+use waylluqen_assemble::quote::named;
+use waylluqen_assemble::stream::{read, tell, write};
 
 const USAGE: &str = "usage: assemble [-h] [file]\n";
 
@@ -23,7 +24,8 @@ Makes the bytes of a script for vmbind from a readable text, one record a line:
   repeat 3: map 0x1000*i 0x1000 7 0x8000+4096*i  a line three times, with 0, 1 and 2 for i
 
 Numbers are decimal or, with 0x, hexadecimal; _ may stand between digits. # starts a comment,
-blank lines are free. A bad line is told on standard error, and then nothing is written.
+blank lines are free. A text has at most 64 MiB, a script 256 MiB, and repeat 1,000,000 turns.
+A bad line is told on standard error, and then nothing is written.
 
 positional arguments:
   file        the text; standard input if - or none
@@ -69,9 +71,8 @@ fn asked(arguments: impl Iterator<Item = OsString>) -> Asked {
 
 /// The script of a file, or what is wrong with it.
 fn script(file: &OsStr) -> Result<Vec<u8>, String> {
-    let name = text::readable(file.as_bytes());
-    let bytes = read(file).map_err(|error| format!("{name}: {}", reason(&error)))?;
-    text::assemble(&bytes).map_err(|bad| format!("{name}:{}: {}", bad.line, bad.what))
+    let bytes = read(file, text::MOST_TEXT)?;
+    text::assemble(&bytes).map_err(|bad| format!("{}:{}: {}", named(file), bad.line, bad.what))
 }
 
 fn main() -> ExitCode {
@@ -79,7 +80,7 @@ fn main() -> ExitCode {
         Asked::Help => write([USAGE, HELP].concat().as_bytes()),
         Asked::Assemble(file) => script(&file).and_then(|bytes| write(&bytes)),
         Asked::Unrecognized(words) => {
-            let words = text::readable(words.join(OsStr::new(" ")).as_bytes());
+            let words = named(&words.join(OsStr::new(" ")));
             tell(&format!(
                 "{USAGE}assemble: error: unrecognized arguments: {words}\n"
             ));
@@ -129,8 +130,9 @@ mod tests {
     }
 
     #[test]
-    fn a_reason_has_no_error_number() {
-        let error = std::fs::read("no/such/file").unwrap_err();
-        assert_eq!(reason(&error), "No such file or directory");
+    fn the_help_tells_the_limits() {
+        let (text, script, turns) = (text::MOST_TEXT, text::MOST_SCRIPT, text::MOST_TURNS);
+        let told = format!("{text} MiB, a script {script} MiB, and repeat {turns} turns");
+        assert!(HELP.replace("1,000,000", "1000000").contains(&told));
     }
 }

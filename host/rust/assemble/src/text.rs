@@ -1,6 +1,14 @@
 //! The lines of a text, and the bytes of their records.
 
 use waylluqen_assemble::number::{parse, parse_at};
+use waylluqen_assemble::quote::quoted;
+
+/// The longest text that is read, in MiB: far more than one that somebody wrote.
+pub const MOST_TEXT: u64 = 64;
+/// The longest script, in MiB. It stays in memory until its last line is known to be good.
+pub const MOST_SCRIPT: usize = 256;
+/// The most turns of a line: a slip in the number is told, and not carried out.
+pub const MOST_TURNS: u64 = 1_000_000;
 
 /// A number of a record: its name, and its bytes.
 type Field = (&'static str, usize);
@@ -23,6 +31,7 @@ const REQUEST: &[Field] = &[
 const LOOKUP: &[Field] = &[("address", 8)];
 const MAP: &[Field] = &[("address", 8), ("size", 8), ("object", 4), ("offset", 8)];
 const UNMAP: &[Field] = &[("address", 8), ("size", 8)];
+const MOST_FIELDS: usize = REQUEST.len();
 
 /// The values of `op`.
 const OP_MAP: u64 = 0;
@@ -35,21 +44,30 @@ pub struct BadLine {
     pub what: String,
 }
 
-/// Bytes as a message shows them. A byte that is no text becomes `\xff`, which no rule takes.
-pub fn readable(bytes: &[u8]) -> String {
-    let mut out = String::new();
-    for chunk in bytes.utf8_chunks() {
-        out.push_str(chunk.valid());
-        out.extend(chunk.invalid().iter().map(|byte| format!("\\x{byte:02x}")));
-    }
-    out
+/// The bytes of the lines so far, and how many they may be.
+struct Script {
+    bytes: Vec<u8>,
+    most: usize,
 }
 
-/// The words of a line stand between white space, to which ASCII's separators belong.
-fn words_of(line: &str) -> Vec<&str> {
+impl Script {
+    fn put(&mut self, bytes: &[u8]) -> Result<(), String> {
+        if bytes.len() > self.most - self.bytes.len() {
+            return Err(format!("the script is longer than {MOST_SCRIPT} MiB"));
+        }
+        // Without this, too little memory would end the program without a message.
+        let room = self.bytes.try_reserve(bytes.len());
+        room.map_err(|_| "there is no memory for the script".to_string())?;
+        self.bytes.extend_from_slice(bytes);
+        Ok(())
+    }
+}
+
+/// The words of a line stand between white space, to which ASCII's separators belong. A line may
+/// be as long as the text, so they are never all in memory.
+fn words_of(line: &str) -> impl Iterator<Item = &str> + Clone {
     line.split(|c: char| c.is_whitespace() || ('\x1c'..='\x1f').contains(&c))
         .filter(|word| !word.is_empty())
-        .collect()
 }
 
 fn fields_of(kind: &str) -> Option<&'static [Field]> {
@@ -63,20 +81,41 @@ fn fields_of(kind: &str) -> Option<&'static [Field]> {
     }
 }
 
-/// The numbers as values, if they are as many as the record has and each fits its field.
-fn fitted(kind: &str, fields: &[Field], numbers: &[u128]) -> Result<Vec<u64>, String> {
-    if numbers.len() != fields.len() {
-        let names: Vec<&str> = fields.iter().map(|field| field.0).collect();
-        let wanted = match kind {
-            "SP" => "2 or 4".to_string(),
-            _ => fields.len().to_string(),
+/// The numbers of a record, and how many there are: those that no record has room for only count.
+fn numbers_of<'a>(
+    words: impl Iterator<Item = &'a str>,
+    turn: Option<u64>,
+) -> Result<(Vec<u128>, usize), String> {
+    let (mut numbers, mut count) = (Vec::with_capacity(MOST_FIELDS), 0);
+    for word in words {
+        let number = match turn {
+            Some(turn) => parse_at(word, turn)?,
+            None => parse(word)?,
         };
-        return Err(format!(
-            "{kind} wants {wanted} numbers, not {}: {}",
-            numbers.len(),
-            names.join(" ")
-        ));
+        if count < MOST_FIELDS {
+            numbers.push(number);
+        }
+        count += 1;
     }
+    Ok((numbers, count))
+}
+
+fn check_count(kind: &str, fields: &[Field], count: usize) -> Result<(), String> {
+    let wanted = match kind {
+        _ if count == fields.len() => return Ok(()),
+        "SP" if count == 2 => return Ok(()),
+        "SP" => "2 or 4".to_string(),
+        _ => fields.len().to_string(),
+    };
+    let names: Vec<&str> = fields.iter().map(|field| field.0).collect();
+    let names = names.join(" ");
+    Err(format!(
+        "{kind} wants {wanted} numbers, not {count}: {names}"
+    ))
+}
+
+/// The numbers as values, if each fits its field.
+fn fitted(fields: &[Field], numbers: &[u128]) -> Result<Vec<u64>, String> {
     let value = |(&(name, bytes), &number): (&Field, &u128)| {
         let bits = 8 * bytes;
         let value = u64::try_from(number).ok();
@@ -87,18 +126,20 @@ fn fitted(kind: &str, fields: &[Field], numbers: &[u128]) -> Result<Vec<u64>, St
     fields.iter().zip(numbers).map(value).collect()
 }
 
-fn put(mark: &str, fields: &[Field], values: &[u64], out: &mut Vec<u8>) {
-    out.extend(mark.bytes());
-    for (&(_, bytes), value) in fields.iter().zip(values) {
-        out.extend(&value.to_le_bytes()[..bytes]);
-    }
+fn put(mark: &str, fields: &[Field], values: &[u64], script: &mut Script) -> Result<(), String> {
+    script.put(mark.as_bytes())?;
+    fields
+        .iter()
+        .zip(values)
+        .try_for_each(|(&(_, bytes), value)| script.put(&value.to_le_bytes()[..bytes]))
 }
 
-fn put_raw(words: &[&str], out: &mut Vec<u8>) -> Result<(), String> {
-    if words.is_empty() {
+fn put_raw<'a>(words: impl Iterator<Item = &'a str>, script: &mut Script) -> Result<(), String> {
+    let mut words = words.peekable();
+    if words.peek().is_none() {
         return Err("bytes wants one byte at least".to_string());
     }
-    for word in words {
+    words.try_for_each(|word| {
         let byte = match word.as_bytes() {
             // `from_str_radix` would take a sign too.
             [one, other] if one.is_ascii_hexdigit() && other.is_ascii_hexdigit() => {
@@ -106,74 +147,86 @@ fn put_raw(words: &[&str], out: &mut Vec<u8>) -> Result<(), String> {
             }
             _ => None,
         };
-        out.push(byte.ok_or_else(|| format!("'{word}' is not a byte of two hexadecimal digits"))?);
-    }
-    Ok(())
+        let byte = byte.ok_or_else(|| {
+            let word = quoted(word);
+            format!("'{word}' is not a byte of two hexadecimal digits")
+        })?;
+        script.put(&[byte])
+    })
 }
 
 /// A line that is not repeated, or one turn of a line that is.
-fn put_record(
+fn put_record<'a>(
     kind: &str,
-    words: &[&str],
+    words: impl Iterator<Item = &'a str>,
     turn: Option<u64>,
-    out: &mut Vec<u8>,
+    script: &mut Script,
 ) -> Result<(), String> {
     if kind == "bytes" {
-        return put_raw(words, out);
+        return put_raw(words, script);
     }
-    let fields = fields_of(kind).ok_or_else(|| format!("'{kind}' is not a record"))?;
-    let number = |word: &&str| match turn {
-        Some(turn) => parse_at(word, turn),
-        None => parse(word),
-    };
-    let mut numbers: Vec<u128> = words.iter().map(number).collect::<Result<_, _>>()?;
-    if kind == "SP" && numbers.len() == 2 {
-        numbers.resize(4, 0);
-    }
-    let values = fitted(kind, fields, &numbers)?;
+    let fields = fields_of(kind).ok_or_else(|| format!("'{}' is not a record", quoted(kind)))?;
+    let (mut numbers, count) = numbers_of(words, turn)?;
+    check_count(kind, fields, count)?;
+    // A space of two numbers has no reservation.
+    numbers.resize(fields.len(), 0);
+    let values = fitted(fields, &numbers)?;
     match (kind, &values[..]) {
         ("map", &[address, size, object, offset]) => {
             let values = [OP_MAP, 0, object, 0, address, offset, size];
-            put("RQ", REQUEST, &values, out);
+            put("RQ", REQUEST, &values, script)
         }
         ("unmap", &[address, size]) => {
-            put("RQ", REQUEST, &[OP_UNMAP, 0, 0, 0, address, 0, size], out);
+            let values = [OP_UNMAP, 0, 0, 0, address, 0, size];
+            put("RQ", REQUEST, &values, script)
         }
-        _ => put(kind, fields, &values, out),
+        _ => put(kind, fields, &values, script),
     }
-    Ok(())
 }
 
 /// A line `repeat N: RECORD`.
-fn put_repeated(line: &str, out: &mut Vec<u8>) -> Result<(), String> {
+fn put_repeated(line: &str, script: &mut Script) -> Result<(), String> {
     let (head, body) = line.split_once(':').unwrap_or((line, ""));
-    let (head, body) = (words_of(head), words_of(body));
-    let (&[_, turns], [kind, words @ ..]) = (&head[..], &body[..]) else {
+    let (mut head, mut words) = (words_of(head).skip(1), words_of(body));
+    let (Some(number), None, Some(kind)) = (head.next(), head.next(), words.next()) else {
         return Err("repeat wants a number, a colon and a record".to_string());
     };
-    // More turns than 64 bits can count would not come to an end either.
-    let turns = u64::try_from(parse(turns)?).unwrap_or(u64::MAX);
-    (0..turns).try_for_each(|turn| put_record(kind, words, Some(turn), out))
+    let turns = u64::try_from(parse(number)?).ok();
+    let turns = turns.filter(|&turns| turns <= MOST_TURNS).ok_or_else(|| {
+        let number = quoted(number);
+        format!("repeat has at most {MOST_TURNS} turns, not {number}")
+    })?;
+    (0..turns).try_for_each(|turn| put_record(kind, words.clone(), Some(turn), script))
 }
 
-fn put_line(line: &str, out: &mut Vec<u8>) -> Result<(), String> {
-    match words_of(line)[..] {
-        [] => Ok(()),
-        ["repeat", ..] => put_repeated(line, out),
-        [kind, ref words @ ..] => put_record(kind, words, None, out),
+fn put_line(line: &[u8], script: &mut Script) -> Result<(), String> {
+    let line = std::str::from_utf8(line).map_err(|error| {
+        let from_there = quoted(&line[error.valid_up_to()..]);
+        format!("'{from_there}' is not UTF-8")
+    })?;
+    let mut words = words_of(line);
+    match words.next() {
+        None => Ok(()),
+        Some("repeat") => put_repeated(line, script),
+        Some(kind) => put_record(kind, words, None, script),
     }
+}
+
+fn assemble_within(text: &[u8], most: usize) -> Result<Vec<u8>, BadLine> {
+    let bytes = Vec::new();
+    let mut script = Script { bytes, most };
+    for (at, line) in text.split(|&byte| byte == b'\n').enumerate() {
+        // The comment goes first: it need not be text.
+        let end = line.iter().position(|&byte| byte == b'#');
+        put_line(&line[..end.unwrap_or(line.len())], &mut script)
+            .map_err(|what| BadLine { line: at + 1, what })?;
+    }
+    Ok(script.bytes)
 }
 
 /// The bytes of a whole script.
 pub fn assemble(text: &[u8]) -> Result<Vec<u8>, BadLine> {
-    let mut out = Vec::new();
-    for (at, line) in text.split(|&byte| byte == b'\n').enumerate() {
-        // The comment goes first: it need not be text.
-        let end = line.iter().position(|&byte| byte == b'#');
-        let line = readable(&line[..end.unwrap_or(line.len())]);
-        put_line(&line, &mut out).map_err(|what| BadLine { line: at + 1, what })?;
-    }
-    Ok(out)
+    assemble_within(text, MOST_SCRIPT << 20)
 }
 
 #[cfg(test)]

@@ -20,8 +20,10 @@ use mapping::Space;
 use picture::View;
 use replay::Grant;
 use std::ffi::OsString;
+use std::os::unix::ffi::OsStrExt;
 use std::process::ExitCode;
-use waylluqen_assemble::stream::{read, reason, tell, write};
+use waylluqen_assemble::quote::named;
+use waylluqen_assemble::stream::{read, tell, write};
 
 const USAGE: &str = "usage: picture [-h] [--space START SIZE [RESERVED-START RESERVED-SIZE]]
                [--grant N | --table] [file]
@@ -44,10 +46,11 @@ options:
               none, the picture goes from the first mapping to the last
   --grant N   the request of the N-th granted line of the text, counted from 1; else the last
   --table     the file is a saved table: the lent words as bytes, 64-bit little-endian, four a
-              mapping, up to the first whose size is 0
+              mapping, 512 mappings at most, up to the first whose size is 0
   -h, --help  show this help message and exit
 
-A text that does not replay is told on standard error with its line, and nothing is written.
+A text has at most 256 MiB. One that does not replay is told on standard error with its line,
+and nothing is written.
 ";
 
 const FAILED: u8 = 1;
@@ -65,9 +68,12 @@ struct Asked {
 
 /// The numbers behind `--space`, two or four.
 fn take_numbers(words: &mut &[OsString]) -> Result<Vec<u64>, String> {
-    let number = |word: &OsString| word.to_str().and_then(number::parse);
-    let numbers: Vec<u64> = words.iter().map_while(number).take(4).collect();
-    *words = &words[numbers.len()..];
+    let meant = words.iter().take_while(|word| number::is_meant(word));
+    let (numbers, others) = words.split_at(meant.count().min(4));
+    *words = others;
+    let numbers = numbers.iter().map(|word| number::parse(word));
+    let numbers: Result<Vec<u64>, String> = numbers.collect();
+    let numbers = numbers.map_err(|what| format!("--space: {what}"))?;
     match numbers.len() {
         2 | 4 => Ok(numbers),
         others => Err(format!(
@@ -77,10 +83,8 @@ fn take_numbers(words: &mut &[OsString]) -> Result<Vec<u64>, String> {
 }
 
 fn take_number(words: &mut &[OsString]) -> Result<usize, String> {
-    let number = words
-        .first()
-        .and_then(|word| word.to_str())
-        .and_then(number::parse);
+    let number = words.first().map(|word| number::parse(word)).transpose();
+    let number = number.map_err(|what| format!("--grant: {what}"))?;
     let number = number
         .and_then(|number| usize::try_from(number).ok())
         .filter(|&number| number > 0);
@@ -95,20 +99,13 @@ fn asked(mut words: &[OsString]) -> Result<Asked, String> {
     };
     while let ([word, others @ ..], false) = (words, asked.help) {
         words = others;
-        match word.to_str() {
-            Some("--space") => asked.space = Some(take_numbers(&mut words)?),
-            Some("--grant") => asked.grant = Some(take_number(&mut words)?),
-            Some("--table") => asked.table = true,
-            Some(option) if option.len() > 1 && option.starts_with('-') => {
-                return Err(format!("unrecognized arguments: {option}"));
-            }
-            _ if asked.file.is_none() => asked.file = Some(word.clone()),
-            _ => {
-                return Err(format!(
-                    "unrecognized arguments: {}",
-                    word.to_string_lossy()
-                ))
-            }
+        let option = word.len() > 1 && word.as_bytes()[0] == b'-';
+        match word.as_bytes() {
+            b"--space" => asked.space = Some(take_numbers(&mut words)?),
+            b"--grant" => asked.grant = Some(take_number(&mut words)?),
+            b"--table" => asked.table = true,
+            _ if !option && asked.file.is_none() => asked.file = Some(word.clone()),
+            _ => return Err(format!("unrecognized arguments: {}", named(word))),
         }
     }
     if asked.table && asked.grant.is_some() {
@@ -128,7 +125,7 @@ fn grant_of(asked: &Asked, name: &str, bytes: &[u8]) -> Result<(Grant, String), 
         };
         return Ok((grant, "The address space".to_string()));
     }
-    let replayed = replay::replay(&String::from_utf8_lossy(bytes), asked.grant)
+    let replayed = replay::replay(bytes, asked.grant)
         .map_err(|bad| format!("{name}:{}: {}", bad.line, bad.what))?;
     let grants = replayed.grants;
     let grant = replayed.wanted.ok_or_else(|| match grants {
@@ -160,8 +157,12 @@ fn space_of(asked: &Asked, grant: &Grant) -> Result<Space, String> {
 
 fn picture(asked: &Asked) -> Result<String, String> {
     let file = asked.file.clone().unwrap_or_else(|| "-".into());
-    let name = file.to_string_lossy();
-    let bytes = read(&file).map_err(|error| format!("{name}: {}", reason(&error)))?;
+    let most = match asked.table {
+        true => saved::MOST_READ,
+        false => replay::MOST_READ,
+    };
+    let bytes = read(&file, most)?;
+    let name = named(&file);
     let (grant, title) = grant_of(asked, &name, &bytes)?;
     let space = space_of(asked, &grant).map_err(|what| format!("{name}: {what}"))?;
     Ok(picture::draw(&View {
@@ -196,6 +197,7 @@ fn main() -> ExitCode {
 mod tests {
     use super::*;
     use crate::mapping::Mapping;
+    use std::ffi::OsStr;
 
     fn asked_of(words: &[&str]) -> Result<Asked, String> {
         asked(&words.iter().map(OsString::from).collect::<Vec<_>>())
@@ -235,12 +237,57 @@ mod tests {
                 &["--space", "0", "1", "2", "a"],
                 "--space wants 2 or 4 numbers of 64 bits, not 3",
             ),
+            (
+                &["--space", "0", "18446744073709551616"],
+                "--space: 18446744073709551616 does not fit in 64 bits",
+            ),
             (&["--grant"], "--grant wants a number from 1 on"),
             (&["--grant", "0"], "--grant wants a number from 1 on"),
+            (
+                &["--grant", "--table"],
+                "--grant: '--table' is not a number",
+            ),
             (&["--table", "--grant", "1"], "a table has no grants"),
         ] {
             assert_eq!(asked_of(words), Err(told.to_string()));
         }
+    }
+
+    #[test]
+    fn negative_numbers_are_values_of_their_option() {
+        for words in [
+            &["--space", "-1", "5"][..],
+            &["--space", "0", "-1"],
+            &["--space", "0", "1", "-1", "3"],
+            &["--space", "-1"],
+        ] {
+            let told = "--space: '-1' is negative".to_string();
+            assert_eq!(asked_of(words), Err(told));
+        }
+        let told = "--grant: '-0x10' is negative".to_string();
+        assert_eq!(asked_of(&["--grant", "-0x10", "a"]), Err(told));
+        let told = "unrecognized arguments: -1".to_string();
+        assert_eq!(asked_of(&["--space", "0", "1", "2", "3", "-1"]), Err(told));
+    }
+
+    #[test]
+    fn arguments_are_quoted() {
+        let told_of = |word: &[u8]| asked(&[OsStr::from_bytes(word).to_owned()]).unwrap_err();
+        let told = r"unrecognized arguments: -\xff\x1b\n";
+        assert_eq!(told_of(b"-\xff\x1b\n"), told);
+        let long = format!("-{}", "x".repeat(999));
+        let told = format!("unrecognized arguments: {}...", &long[..197]);
+        assert_eq!(told_of(long.as_bytes()), told);
+        let told = r"--grant: '\xff\x1b' is not a number".to_string();
+        let words = ["--grant".into(), OsStr::from_bytes(b"\xff\x1b").to_owned()];
+        assert_eq!(asked(&words), Err(told));
+    }
+
+    #[test]
+    fn the_help_tells_the_limits() {
+        let most = format!("A text has at most {} MiB", replay::MOST_READ);
+        assert!(HELP.contains(&most));
+        assert!(HELP.contains(&format!("{} mappings at most", saved::MOST_MAPPINGS)));
     }
 
     #[test]

@@ -1,7 +1,14 @@
 //! Carries vmbind's operations out, from its text, so that the tables around a request are known.
 
 use crate::mapping::Mapping;
+use crate::saved::MOST_MAPPINGS;
 use crate::text::{line, Kind, Line, Side};
+
+/// What is read of a text, in MiB: some million requests.
+pub const MOST_READ: u64 = 256;
+
+/// A request hits each mapping once, and a map has one of its own. More would only need memory.
+const MOST_OPERATIONS: usize = MOST_MAPPINGS + 1;
 
 #[derive(Clone, Debug, PartialEq)]
 pub struct Operation {
@@ -57,6 +64,9 @@ fn put_in(table: &mut Vec<Mapping>, new: Mapping) -> Result<(), String> {
     if let Some(old) = table.iter().find(in_the_way) {
         return Err(format!("overlaps the mapping {}", old.range.shown()));
     }
+    if table.len() == MOST_MAPPINGS {
+        return Err(format!("a table has no more than {MOST_MAPPINGS} mappings"));
+    }
     let place = table.partition_point(|mapping| mapping.range.start < new.range.start);
     table.insert(place, new);
     Ok(())
@@ -79,6 +89,11 @@ impl Replay {
         let is_told = |open: &&mut Open| (open.grant.operations.len() as u64) < open.operations;
         let open = self.open.as_mut().filter(is_told);
         let open = open.ok_or("no granted line has told of this operation")?;
+        if open.grant.operations.len() == MOST_OPERATIONS {
+            return Err(format!(
+                "a request has no more than {MOST_OPERATIONS} operations"
+            ));
+        }
         match kind {
             Kind::Map => put_in(&mut self.table, named)?,
             Kind::Remap | Kind::Unmap => take_out(&mut self.table, &named)?,
@@ -118,7 +133,7 @@ impl Replay {
         check("operations", open.operations, open.grant.operations.len())?;
         check("mappings", open.count, self.table.len())?;
         self.grants += 1;
-        if wanted.is_none_or(|number| number == self.grants) {
+        if wanted.map_or(true, |number| number == self.grants) {
             open.grant.after.clone_from(&self.table);
             self.wanted = Some(open.grant);
         }
@@ -145,10 +160,20 @@ impl Replay {
     }
 }
 
+/// The lines of a text, as `str::lines` gives them.
+fn lines_of(text: &[u8]) -> impl Iterator<Item = &[u8]> {
+    text.split_inclusive(|&byte| byte == b'\n').map(|line| {
+        let Some(line) = line.strip_suffix(b"\n") else {
+            return line;
+        };
+        line.strip_suffix(b"\r").unwrap_or(line)
+    })
+}
+
 /// Replays the whole text. `wanted` counts the grants from 1; `None` is the last one.
-pub fn replay(text: &str, wanted: Option<usize>) -> Result<Replay, BadLine> {
+pub fn replay(text: impl AsRef<[u8]>, wanted: Option<usize>) -> Result<Replay, BadLine> {
     let mut replay = Replay::default();
-    for (at, words) in text.lines().enumerate() {
+    for (at, words) in lines_of(text.as_ref()).enumerate() {
         let bad = |what| BadLine { line: at + 1, what };
         if replay.stopped {
             return Err(bad("vmbind has stopped before this line".to_string()));

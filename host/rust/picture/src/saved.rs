@@ -4,7 +4,10 @@ use crate::mapping::Mapping;
 
 const WORD: usize = 8;
 const MAPPING: usize = 4 * WORD;
-const MOST_MAPPINGS: usize = 512;
+pub const MOST_MAPPINGS: usize = 512;
+
+/// What is read of a table, in MiB: above any table's size, so that a file is told with its own.
+pub const MOST_READ: u64 = 1;
 
 fn words(place: &[u8]) -> [u64; 4] {
     let mut words = [0; 4];
@@ -20,7 +23,7 @@ fn words(place: &[u8]) -> [u64; 4] {
 /// The mappings up to the first of size 0; behind it there are zeros alone.
 pub fn table(bytes: &[u8]) -> Result<Vec<Mapping>, String> {
     let places = bytes.len() / MAPPING;
-    if !bytes.len().is_multiple_of(MAPPING) || !(1..=MOST_MAPPINGS).contains(&places) {
+    if bytes.len() % MAPPING != 0 || !(1..=MOST_MAPPINGS).contains(&places) {
         let told = bytes.len();
         return Err(format!(
             "a table has 1 to {MOST_MAPPINGS} times {MAPPING} bytes, not {told}"

@@ -1,6 +1,8 @@
 //! The lines that vmbind prints.
 
 use crate::mapping::Mapping;
+use waylluqen_assemble::number::negative;
+use waylluqen_assemble::quote::quoted;
 
 #[derive(Clone, Copy, Debug, PartialEq)]
 pub enum Kind {
@@ -30,27 +32,34 @@ pub enum Line {
     Stopped,
 }
 
+/// The longest line is a remap: its name, four numbers, `keep` and the mark.
+const MOST_WORDS: usize = 7;
+
 /// vmbind's numbers are decimal, without a sign.
 fn number(word: &str) -> Result<u64, String> {
     let digits = word.bytes().all(|byte| byte.is_ascii_digit());
     let number = word.parse().ok().filter(|_| digits);
-    number.ok_or_else(|| format!("'{word}' is not a number of 64 bits"))
+    let no_number = || format!("'{}' is not a number of 64 bits", quoted(word));
+    number.ok_or_else(|| negative(word).unwrap_or_else(no_number))
 }
 
 fn keep(word: &str) -> Result<bool, String> {
     match word {
         "0" => Ok(false),
         "1" => Ok(true),
-        _ => Err(format!("a keep mark is 0 or 1, not '{word}'")),
+        _ => Err(format!("a keep mark is 0 or 1, not '{}'", quoted(word))),
     }
 }
 
-/// The line that these words are, or what is wrong with them.
-pub fn line(text: &str) -> Result<Line, String> {
-    let words: Vec<&str> = text.split(' ').collect();
+/// The line that these bytes are, or what is wrong with them.
+pub fn line(bytes: &[u8]) -> Result<Line, String> {
+    let no_line = || format!("'{}' is no line of vmbind", quoted(bytes));
+    let text = std::str::from_utf8(bytes).map_err(|_| no_line())?;
+    // One word too many tells as much as all words of an endless line, which need memory.
+    let words: Vec<&str> = text.split(' ').take(MOST_WORDS + 1).collect();
     let mapping = |numbers: &[&str]| match numbers {
         [a, s, o, f] => Mapping::of([number(a)?, number(s)?, number(o)?, number(f)?]),
-        _ => Err(format!("'{text}' is no line of vmbind")),
+        _ => Err(no_line()),
     };
     let only_numbers = |words: &[&str], line| {
         words.iter().try_for_each(|word| number(word).map(|_| ()))?;
@@ -71,13 +80,17 @@ pub fn line(text: &str) -> Result<Line, String> {
         }
         ["refused", rule] => only_numbers(&[rule], Line::Unchanging),
         ["mark" | "cut", place] => only_numbers(&[place], Line::Stopped),
-        _ => Err(format!("'{text}' is no line of vmbind")),
+        _ => Err(no_line()),
     }
 }
 
 #[cfg(test)]
 mod tests {
     use super::*;
+
+    fn line(text: &str) -> Result<Line, String> {
+        super::line(text.as_bytes())
+    }
 
     #[test]
     fn every_kind_of_line() {
@@ -124,7 +137,9 @@ mod tests {
             "map 0 4096 7",
             "map 0 4096 7 0 ",
             "unmap 0 4096 7 0",
+            "unmap 0 4096 7 0 keep 0 1",
             "remap 0 4096 7 0 keep",
+            "remap 0 4096 7 0 0 keep 0",
             "at 0",
             "space",
             "host/test: passed",
@@ -146,8 +161,28 @@ mod tests {
                 Err(format!("'{word}' is not a number of 64 bits"))
             );
         }
+        assert_eq!(line("at -1 none"), Err("'-1' is negative".to_string()));
         let told = "a keep mark is 0 or 1, not '2'".to_string();
         assert_eq!(line("unmap 0 4096 7 0 keep 2"), Err(told));
         assert_eq!(line("map 0 4096 0 0"), Err("0 is no object".to_string()));
+    }
+
+    #[test]
+    fn what_is_told_is_quoted() {
+        let (long, shown) = ("x".repeat(1 << 20), "x".repeat(37) + "...");
+        for (word, shown) in [("\x1b[2J", r"\x1b[2J"), (&long, &shown)] {
+            let no_line = format!("'{shown}' is no line of vmbind");
+            assert_eq!(line(word), Err(no_line));
+            let no_number = format!("'{shown}' is not a number of 64 bits");
+            assert_eq!(line(&format!("refused {word}")), Err(no_number));
+            let no_mark = format!("a keep mark is 0 or 1, not '{shown}'");
+            let text = format!("unmap 0 4096 7 0 keep {word}");
+            assert_eq!(line(&text), Err(no_mark));
+        }
+        let no_text = super::line(b"space \xff256");
+        let told = r"'space \xff256' is no line of vmbind".to_string();
+        assert_eq!(no_text, Err(told));
+        let told = r"'map\u{a0}0 4096 7 0\r' is no line of vmbind".to_string();
+        assert_eq!(line("map\u{a0}0 4096 7 0\r"), Err(told));
     }
 }

@@ -57,6 +57,8 @@ fn a_look_up() {
     assert_eq!(bytes("LK 0x1_23"), b"LK\x23\x01\0\0\0\0\0\0");
     assert_eq!(bytes("\tLK 1\r\nLK 2"), bytes("LK 1\nLK\u{a0}2 # two\n"));
     assert_eq!(told("LK"), "LK wants 1 numbers, not 0: address");
+    let many = format!("LK {}", "7 ".repeat(4096));
+    assert_eq!(told(&many), "LK wants 1 numbers, not 4096: address");
     assert_eq!(told("LK 1*i"), "'1*i' is not a number");
 }
 
@@ -98,7 +100,7 @@ fn a_number_has_to_fit_its_field() {
         "object 4294967296 does not fit in 32 bits"
     );
     assert_eq!(
-        told("repeat 0xffff_ffff_ffff_ffff_ffff: LK 0x8000_0000_0000_0000*i"),
+        told("repeat 3: LK 0x8000_0000_0000_0000*i"),
         "address 18446744073709551616 does not fit in 64 bits"
     );
     // How many they are is told first.
@@ -110,8 +112,68 @@ fn a_number_has_to_fit_its_field() {
 
 #[test]
 fn other_words_are_no_records() {
-    for word in ["XY", "sp", "Map", "BYTES", "\u{feff}LK", "LK:"] {
+    for word in ["XY", "sp", "Map", "BYTES", "LK:"] {
         assert_eq!(told(word), format!("'{word}' is not a record"));
+    }
+    assert_eq!(told("\u{feff}LK"), r"'\u{feff}LK' is not a record");
+}
+
+#[test]
+fn what_a_line_says_is_quoted() {
+    let (esc, shown) = ("\x1b]0;title\x07", r"\x1b]0;title\x07");
+    let (long, short) = ("x".repeat(1 << 20), format!("{}...", "x".repeat(37)));
+    for (word, shown) in [(esc, shown), (&long, &short)] {
+        assert_eq!(told(word), format!("'{shown}' is not a record"));
+        assert_eq!(told(&format!("repeat 1: {word}")), told(word));
+        let no_number = format!("'{shown}' is not a number");
+        assert_eq!(told(&format!("LK {word}")), no_number);
+        assert_eq!(told(&format!("repeat {word}: LK 0")), no_number);
+        let no_byte = format!("'{shown}' is not a byte of two hexadecimal digits");
+        assert_eq!(told(&format!("bytes {word}")), no_byte);
+    }
+}
+
+#[test]
+fn negative_numbers() {
+    for line in [
+        "SP -1 4096",
+        "map 0 0 -1 0",
+        "unmap 0 -1",
+        "LK -1",
+        "LK 1 2 -1",
+    ] {
+        assert_eq!(told(line), "'-1' is negative");
+    }
+    assert_eq!(told("RQ 0 0 0 0 -0x10 0 0"), "'-0x10' is negative");
+    assert_eq!(told("repeat -4_096: LK 0"), "'-4_096' is negative");
+    assert_eq!(told("repeat 2: LK 8+-4*i"), "'-4' is negative");
+}
+
+#[test]
+fn turns_have_a_limit() {
+    assert_eq!(bytes("repeat 1_000_000: bytes 00").len(), 1_000_000);
+    for turns in ["1000001", "0xf_4241", "18446744073709551616"] {
+        let wanted = format!("repeat has at most 1000000 turns, not {turns}");
+        assert_eq!(told(&format!("repeat {turns}: LK 0")), wanted);
+    }
+    let nines = "9".repeat(4096);
+    let wanted = format!("{}... is too large", "9".repeat(37));
+    assert_eq!(told(&format!("repeat {nines}: LK 0")), wanted);
+}
+
+#[test]
+fn a_script_has_a_limit() {
+    let script = |text: &str| assemble_within(text.as_bytes(), 94);
+    let full = "repeat 2: map 0 0 0 0\nLK 0";
+    assert_eq!(script(full).unwrap().len(), 94);
+    for (text, line) in [
+        ("repeat 3: map 0 0 0 0", 1),
+        ("SP 0 0\nLK 0\nmap 0 0 0 0\nLK 0", 4),
+        ("repeat 2: map 0 0 0 0\nLK 0\n\nbytes 00", 4),
+    ] {
+        let bad = script(text).unwrap_err();
+        let what = "the script is longer than 256 MiB".to_string();
+        assert_eq!(bad, BadLine { line, what });
     }
 }
 
@@ -120,5 +182,5 @@ fn bytes_that_are_no_text() {
     assert_eq!(assemble(b"LK 1 # \xff\xc3").unwrap(), bytes("LK 1"));
     let bad = assemble(b"LK 1\nLK \xc3\xa9\xed\xa0\x80\n").unwrap_err();
     assert_eq!(bad.line, 2);
-    assert_eq!(bad.what, r"'é\xed\xa0\x80' is not a number");
+    assert_eq!(bad.what, r"'\xed\xa0\x80' is not UTF-8");
 }

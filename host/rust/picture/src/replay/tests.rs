@@ -12,10 +12,10 @@ fn mapping(words: [u64; 4]) -> Mapping {
 fn told(number: usize, text: &str) -> (usize, String) {
     let mut lines: Vec<&str> = WORKED.lines().collect();
     lines[number - 1] = text;
-    told_of(&lines.join("\n"))
+    told_of(lines.join("\n"))
 }
 
-fn told_of(text: &str) -> (usize, String) {
+fn told_of(text: impl AsRef<[u8]>) -> (usize, String) {
     let bad = replay(text, None).err().expect("a line that is bad");
     (bad.line, bad.what)
 }
@@ -106,7 +106,7 @@ fn numbers_that_differ() {
     assert_eq!(told(2, "at 0 none"), (3, untold));
     let cut: Vec<&str> = WORKED.lines().take(7).collect();
     let operations = "tells of 2 operations, and there are 1".to_string();
-    assert_eq!(told_of(&cut.join("\n")), (4, operations));
+    assert_eq!(told_of(cut.join("\n")), (4, operations));
 }
 
 #[test]
@@ -116,7 +116,44 @@ fn lines_of_no_kind() {
     }
     let stopped = "vmbind has stopped before this line".to_string();
     assert_eq!(
-        told_of(&format!("{WORKED}mark 96\nat 0 none\n")),
+        told_of(format!("{WORKED}mark 96\nat 0 none\n")),
         (11, stopped)
     );
+}
+
+#[test]
+fn lines_are_those_of_a_text() {
+    for text in ["", "\n", "\r\n", "a", "a\n", "a\r\nb\r", "\n\na\r\r\nb\n"] {
+        let lines: Vec<&[u8]> = lines_of(text.as_bytes()).collect();
+        let wanted: Vec<&[u8]> = text.lines().map(str::as_bytes).collect();
+        assert_eq!(lines, wanted);
+    }
+    let told = r"'at 0 \xff\x1b' is no line of vmbind".to_string();
+    assert_eq!(told_of(b"space 256\r\nat 0 \xff\x1b\nat"), (2, told));
+}
+
+/// A text that grants as many maps as said.
+fn maps(count: u64) -> String {
+    (0..count)
+        .map(|at| format!("granted 1 {}\nmap {} 4096 7 0\n", at + 1, at << 12))
+        .collect()
+}
+
+#[test]
+fn a_table_has_an_end() {
+    let full = replay(maps(512), None).unwrap();
+    assert_eq!((full.grants, full.table.len()), (512, 512));
+    let told = "a table has no more than 512 mappings".to_string();
+    assert_eq!(told_of(maps(513)), (1026, told));
+}
+
+#[test]
+fn a_request_has_an_end() {
+    let pairs = "map 0 4096 7 0\nunmap 0 4096 7 0 keep 0\n";
+    let all = format!("granted 513 1\n{}map 0 4096 7 0", pairs.repeat(256));
+    let grant = replay(all, None).unwrap().wanted.unwrap();
+    assert_eq!(grant.operations.len(), 513);
+    let told = "a request has no more than 513 operations".to_string();
+    let more = format!("granted 999999 0\n{}", pairs.repeat(257));
+    assert_eq!(told_of(more), (515, told));
 }
