@@ -1,89 +1,178 @@
-//! A column: its mappings with their labels, the reservation, and the zigzags over them.
+//! A column: its stretches with their labels, and the zigzags over them.
+
+pub mod stretch;
 
 use crate::flow;
-use crate::layout::{Band, Kind, Layout, STRIP};
 use crate::mapping::{Mapping, Range};
-use crate::number::{count, hex, size};
+use crate::number::hex;
 use crate::picture::{Drawing, COLUMN, LINE, TOP};
-use crate::svg::{width_of, FINE, HATCHED, MIDDLE, SMALL, STRONG, WHITE};
+use crate::svg::{width_in, DOTS, FINE, FONT, HATCHED, MIDDLE, SMALL, STRONG, WHITE};
+use stretch::{object_and_offset, stretches, Stretch, What};
 
 /// Below this height a mapping has no outline: that would hide its colour.
 const THIN: f64 = 6.0;
 
-pub fn object_and_offset(mapping: &Mapping) -> String {
-    format!("object {} + {}", mapping.object, hex(mapping.offset))
+/// The heights of a zigzag with a label in it, and of one without.
+const STRIP: f64 = 18.0;
+const BARE: f64 = 8.0;
+
+/// Between a label and the sides of its column.
+const PADDING: f64 = 4.0;
+
+/// Between a label and the outline above it, or a pattern around it.
+const CLEARANCE: f64 = 2.0;
+
+/// A stretch's lines of text, and the height of their middle.
+#[derive(Debug)]
+struct Label {
+    lines: Vec<String>,
+    middle: f64,
+    font: f64,
 }
 
-/// The top and the bottom of a broken band's strip.
-fn strip(band: &Band) -> (f64, f64) {
-    let middle = band.top + band.height / 2.0;
-    (middle - STRIP / 2.0, middle + STRIP / 2.0)
+/// A stretch where it stands in its column.
+#[derive(Debug)]
+pub struct Place {
+    pub stretch: Stretch,
+    pub top: f64,
+    pub bottom: f64,
+    pub is_named: bool,
+    /// The middles of its zigzags.
+    zigzags: Vec<f64>,
+    label: Option<Label>,
 }
 
-/// From the top of a range to its end, or to its first zigzag.
-fn label_room(layout: &Layout, range: &Range) -> Option<(f64, f64)> {
-    let (top, bottom) = layout.span(range)?;
-    let is_in_it = |band: &&Band| band.range.is_inside(range) && layout.is_broken(band);
-    let zigzag = layout.bands.iter().find(is_in_it);
-    Some((top, zigzag.map_or(bottom, |band| strip(band).0)))
+impl Label {
+    fn height(&self) -> f64 {
+        self.lines.len() as f64 * LINE
+    }
+
+    fn width(&self) -> f64 {
+        let widths = self.lines.iter().map(|line| width_in(line, self.font));
+        widths.fold(0.0, f64::max)
+    }
 }
 
-/// The label of a mapping in lines that fit into it, or none.
-pub fn label(layout: &Layout, mapping: &Mapping) -> Option<Vec<String>> {
-    let (top, bottom) = label_room(layout, &mapping.range)?;
-    let (whole, bytes) = (object_and_offset(mapping), size(mapping.range.size()));
+/// The label of a mapping in the first form that fits into a width and between two heights.
+fn label_of_mapping(
+    stretch: &Stretch,
+    mapping: &Mapping,
+    width: f64,
+    room: (f64, f64),
+) -> Option<Label> {
+    let (offset, size) = (format!("+ {}", hex(mapping.offset)), stretch.size());
     let object = format!("object {}", mapping.object);
-    let offset = format!("+ {}, {bytes}", hex(mapping.offset));
     let forms = [
-        vec![whole.clone(), bytes],
-        vec![object, offset],
-        vec![whole],
+        (FONT, vec![object_and_offset(mapping), size.clone()]),
+        (FONT, vec![object.clone(), format!("{offset}, {size}")]),
+        (FONT, vec![object, offset, size]),
+        (SMALL, vec![stretch.told()]),
     ];
-    forms.into_iter().find(|lines| {
-        let fit = |line: &String| width_of(line) <= COLUMN - 8.0;
-        lines.len() as f64 * LINE <= bottom - top && lines.iter().all(fit)
-    })
+    let middle = (room.0 + room.1) / 2.0;
+    let label = |(font, lines)| Label {
+        lines,
+        middle,
+        font,
+    };
+    let mut labels = forms.into_iter().map(label);
+    let height = room.1 - room.0 - CLEARANCE;
+    labels.find(|label| label.height() <= height && label.width() <= width)
+}
+
+impl Place {
+    fn of(drawing: &Drawing, stretch: Stretch) -> Option<Place> {
+        let (top, bottom) = drawing.layout.span(&stretch.range)?;
+        let mut place = Place {
+            stretch,
+            top,
+            bottom,
+            is_named: false,
+            zigzags: drawing.layout.breaks(&stretch.range),
+            label: None,
+        };
+        if let What::Mapping(mapping) = &stretch.what {
+            let mut operations = drawing.view.grant.operations.iter();
+            place.is_named = operations.any(|one| flow::names(one, mapping));
+            let is_dotted = drawing.colours.is_dotted(mapping.object);
+            place.label = place.mapping_label(mapping, is_dotted);
+        } else {
+            place.label = place.other_label();
+        }
+        Some(place)
+    }
+
+    /// On the mapping's colour, above its zigzags. Beside it some dots are to be seen.
+    fn mapping_label(&self, mapping: &Mapping, is_dotted: bool) -> Option<Label> {
+        let width = match is_dotted {
+            true => COLUMN - 4.0 * DOTS - 2.0 * CLEARANCE,
+            false => COLUMN - 2.0 * PADDING,
+        };
+        let first = self.zigzags.first().map(|middle| middle - BARE / 2.0);
+        let room = (self.top, first.unwrap_or(self.bottom));
+        label_of_mapping(&self.stretch, mapping, width, room)
+    }
+
+    /// In the middle, and if a zigzag is there, in that.
+    fn other_label(&self) -> Option<Label> {
+        let middle = (self.top + self.bottom) / 2.0;
+        let is_there = |zigzag: &&f64| (*zigzag - middle).abs() < STRIP;
+        let zigzag = self.zigzags.iter().find(is_there);
+        let least = match self.stretch.what {
+            What::Gap => 2.0 * LINE,
+            _ => LINE + PADDING,
+        };
+        let has_room = zigzag.is_some() || self.bottom - self.top >= least;
+        has_room.then(|| Label {
+            lines: vec![self.stretch.told()],
+            middle: *zigzag.unwrap_or(&middle),
+            font: SMALL,
+        })
+    }
+
+    /// Whether it has no label in the column, and wants one: a thin gap is plain enough.
+    pub fn is_untold(&self) -> bool {
+        self.label.is_none() && self.stretch.what != What::Gap
+    }
 }
 
 impl Drawing<'_> {
-    /// A rectangle in an object's colour.
+    /// A table's stretches where they stand.
+    pub fn places(&self, table: &[Mapping]) -> Vec<Place> {
+        let left_out: Vec<Range> = self.layout.left_out().collect();
+        let stretches = stretches(&self.view.space, table, &left_out);
+        let place = |stretch| Place::of(self, stretch);
+        stretches.into_iter().filter_map(place).collect()
+    }
+
+    /// A rectangle in an object's colour; its outline lies over the dots.
     pub fn object(&mut self, at: (f64, f64), size: (f64, f64), object: u64, stroke: &str) {
-        let style = format!(r#"fill="{}" {stroke}"#, self.colours.fill(object));
-        self.svg.rect(at, size, &style);
-        if self.colours.is_dotted(object) {
-            self.svg.rect(at, size, r#"fill="url(#dots)""#);
+        let fill = self.colours.fill(object);
+        self.svg
+            .rect(at, size, &format!(r#"fill="{fill}" {stroke}"#));
+        if !self.colours.is_dotted(object) {
+            return;
+        }
+        self.svg.dots(at, size);
+        if !stroke.is_empty() {
+            self.svg.rect(at, size, &format!(r#"fill="none" {stroke}"#));
         }
     }
 
-    fn mapping(&mut self, x: f64, mapping: &Mapping, outline: &str) {
-        let Some((top, bottom)) = self.layout.span(&mapping.range) else {
-            return;
+    fn stretch(&mut self, x: f64, place: &Place) {
+        let (at, size) = ((x, place.top), (COLUMN, place.bottom - place.top));
+        let outline = match place.is_named {
+            true => STRONG,
+            false => FINE,
         };
-        let height = bottom - top;
-        let outline = if height < THIN { "" } else { outline };
-        self.object((x, top), (COLUMN, height), mapping.object, outline);
-        let lines = label(&self.layout, mapping).unwrap_or_default();
-        let room = label_room(&self.layout, &mapping.range).unwrap_or((top, bottom));
-        let first = (room.0 + room.1 - lines.len() as f64 * LINE + LINE) / 2.0;
-        for (at, line) in lines.iter().enumerate() {
-            let y = first + at as f64 * LINE;
-            self.svg.text((x + COLUMN / 2.0, y), MIDDLE, line);
-        }
-    }
-
-    fn reservation(&mut self, x: f64, range: &Range) {
-        let Some((top, bottom)) = self.layout.span(range) else {
-            return;
-        };
-        self.svg.rect((x, top), (COLUMN, bottom - top), HATCHED);
-        let is_whole = label_room(&self.layout, range) == Some((top, bottom));
-        if is_whole && bottom - top >= LINE + 4.0 {
-            let words = format!("reserved, {}", size(range.size()));
-            let (x, y) = (x + COLUMN / 2.0, (top + bottom) / 2.0);
-            let width = width_of(&words) + 8.0;
-            self.svg
-                .rect((x - width / 2.0, y - LINE / 2.0), (width, LINE), WHITE);
-            self.svg.text((x, y), MIDDLE, &words);
+        let outline = if size.1 < THIN { "" } else { outline };
+        match place.stretch.what {
+            What::Gap => (),
+            What::Reservation => self.svg.rect(at, size, HATCHED),
+            What::Mapping(mapping) => self.object(at, size, mapping.object, outline),
+            What::LeftOut(_) => {
+                let style = format!(r##"fill="#cccccc" {FINE}"##);
+                self.svg.rect(at, size, &style);
+            }
         }
     }
 
@@ -101,47 +190,72 @@ impl Drawing<'_> {
         }
     }
 
-    fn broken(&mut self, x: f64, band: &Band) {
-        let bytes = size(self.layout.left_out(band));
-        let words = match band.kind {
-            Kind::Free => format!("{bytes} free"),
-            Kind::Folded(mappings) => format!("{}, {bytes}", count(mappings, "mapping")),
-            Kind::Reserved | Kind::Mapped => format!("{bytes} left out"),
-        };
-        if let Kind::Folded(_) = band.kind {
-            let style = format!(r##"fill="#cccccc" {FINE}"##);
-            self.svg.rect((x, band.top), (COLUMN, band.height), &style);
+    fn zigzags(&mut self, x: f64, place: &Place) {
+        for &middle in &place.zigzags {
+            let has_label = place.label.as_ref().is_some_and(|it| it.middle == middle);
+            let half = if has_label { STRIP } else { BARE } / 2.0;
+            let sides = (x - 3.0, x + COLUMN + 3.0);
+            self.zigzag(sides, (middle - half, middle + half));
         }
-        let (top, bottom) = strip(band);
-        self.zigzag((x - 3.0, x + COLUMN + 3.0), (top, bottom));
-        let middle = (x + COLUMN / 2.0, (top + bottom) / 2.0 - 0.5);
-        let style = format!(r#"{MIDDLE} font-size="{SMALL}""#);
-        self.svg.text(middle, &style, &words);
     }
 
-    pub fn column(&mut self, x: f64, heading: &str, table: &[Mapping]) {
+    /// What is behind a label, so that no pattern is: between whole dots, within the outline.
+    fn plate(&mut self, x: f64, place: &Place, label: &Label) {
+        let fill = match place.stretch.what {
+            What::Mapping(mapping) if self.colours.is_dotted(mapping.object) => {
+                self.colours.fill(mapping.object)
+            }
+            What::Reservation if place.zigzags.is_empty() => "#ffffff",
+            _ => return,
+        };
+        let around = |middle: f64, size: f64, (least, most): (f64, f64)| {
+            let first = ((middle - size / 2.0) / DOTS).floor() * DOTS;
+            let last = ((middle + size / 2.0) / DOTS).ceil() * DOTS;
+            // Of dots that are less than a row there are none.
+            let is_first = first < least + DOTS;
+            let first = if is_first { least + 1.0 } else { first };
+            let last = if last > most - DOTS { most - 1.0 } else { last };
+            (first, last - first)
+        };
+        let width = label.width() + 2.0 * CLEARANCE;
+        let (left, width) = around(x + COLUMN / 2.0, width, (x, x + COLUMN));
+        let (top, height) = around(label.middle, label.height(), (place.top, place.bottom));
+        let style = format!(r#"fill="{fill}""#);
+        self.svg.rect((left, top), (width, height), &style);
+    }
+
+    fn label(&mut self, x: f64, label: &Label) {
+        let style = match label.font == FONT {
+            true => MIDDLE.to_string(),
+            false => format!(r#"{MIDDLE} font-size="{}""#, label.font),
+        };
+        // A small letter's middle is nearer to its foot.
+        let first = label.middle - (label.height() - LINE + 0.7 * (FONT - label.font)) / 2.0;
+        for (at, line) in label.lines.iter().enumerate() {
+            let y = first + at as f64 * LINE;
+            self.svg.text((x + COLUMN / 2.0, y), &style, line);
+        }
+    }
+
+    pub fn column(&mut self, x: f64, heading: &str, places: &[Place]) {
         self.heading(x + COLUMN / 2.0, heading);
         let size = (COLUMN, self.layout.bottom() - TOP);
         self.svg
             .rect((x, TOP), size, &format!(r##"fill="#f6f6f6" {FINE}"##));
-        let operations = &self.view.grant.operations;
-        let is_named = |mapping: &Mapping| operations.iter().any(|one| flow::names(one, mapping));
         // Those that an operation names lie over their neighbours' edges.
-        let (named, others): (Vec<&Mapping>, Vec<&Mapping>) =
-            table.iter().partition(|m| is_named(m));
-        others
-            .into_iter()
-            .for_each(|mapping| self.mapping(x, mapping, FINE));
-        named
-            .into_iter()
-            .for_each(|mapping| self.mapping(x, mapping, STRONG));
-        if let Some(reservation) = &self.view.space.reservation {
-            self.reservation(x, reservation);
+        for is_named in [false, true] {
+            let these = places.iter().filter(|place| place.is_named == is_named);
+            these.for_each(|place| self.stretch(x, place));
         }
-        for band in self.layout.bands.clone() {
-            if self.layout.is_broken(&band) {
-                self.broken(x, &band);
+        places.iter().for_each(|place| self.zigzags(x, place));
+        for place in places {
+            if let Some(label) = &place.label {
+                self.plate(x, place, label);
+                self.label(x, label);
             }
         }
     }
 }
+
+#[cfg(test)]
+mod tests;

@@ -14,9 +14,6 @@ const MOST_OF_PAGE: f64 = 56.0;
 const MOST_OF_CHANGE: f64 = 160.0;
 const HAIRLINE: f64 = 2.0;
 
-/// The strip of a zigzag.
-pub const STRIP: f64 = 18.0;
-
 /// The columns' height at most; with many bands as many pixels for each of them.
 const MOST_OF_ALL: f64 = 900.0;
 const BAND_ROOM: f64 = 3.5;
@@ -32,15 +29,15 @@ pub enum Kind {
     Free,
     Reserved,
     Mapped,
-    /// As many mappings that stay as they are, left out with the gaps between them.
-    Folded(usize),
+    /// Mappings that stay as they are, left out with the gaps between them.
+    Folded,
 }
 
 impl Kind {
     /// A band that would be higher is broken.
     fn most(self) -> f64 {
         match self {
-            Kind::Folded(_) => 40.0,
+            Kind::Folded => 40.0,
             // A gap of one page stays as it is.
             Kind::Free | Kind::Reserved => MOST_OF_PAGE,
             Kind::Mapped => 240.0,
@@ -152,7 +149,7 @@ fn folded(run: &[Band]) -> Option<Vec<Band>> {
         run.iter().rposition(is_mapped)?,
     );
     let mut folded = run[first];
-    folded.kind = Kind::Folded(mappings);
+    folded.kind = Kind::Folded;
     folded.range.end = run[last].range.end;
     Some([&run[..first], &[folded], &run[last + 1..]].concat())
 }
@@ -182,7 +179,7 @@ fn fold(bands: &[Band], touched: &[bool]) -> Vec<Band> {
 fn height(band: &Band, scale: f64) -> f64 {
     let most = band.kind.most();
     match band.kind {
-        Kind::Folded(_) => most,
+        Kind::Folded => most,
         _ => (scale * band.range.size() as f64).clamp(HAIRLINE, most),
     }
 }
@@ -267,20 +264,24 @@ impl Layout {
 
     pub fn is_broken(&self, band: &Band) -> bool {
         let whole = self.scale * band.range.size() as f64;
-        matches!(band.kind, Kind::Folded(_)) || whole > band.kind.most()
+        band.kind == Kind::Folded || whole > band.kind.most()
     }
 
     pub fn is_hairline(&self, range: &Range) -> bool {
         self.scale * (range.size() as f64) < HAIRLINE
     }
 
-    /// The bytes that a broken band does not show.
-    pub fn left_out(&self, band: &Band) -> u64 {
-        match band.kind {
-            // Around its zigzag a gap has nothing that would be to scale.
-            Kind::Free | Kind::Folded(_) => band.range.size(),
-            _ => band.range.size() - ((band.height - STRIP) / self.scale) as u64,
-        }
+    /// The heights at which a range is broken.
+    pub fn breaks(&self, range: &Range) -> Vec<f64> {
+        let broken = self.bands.iter().filter(|band| self.is_broken(band));
+        let inside = broken.filter(|band| band.range.is_inside(range));
+        inside.map(|band| band.top + band.height / 2.0).collect()
+    }
+
+    /// The ranges of which nothing is shown.
+    pub fn left_out(&self) -> impl Iterator<Item = Range> + '_ {
+        let folded = self.bands.iter().filter(|band| band.kind == Kind::Folded);
+        folded.map(|band| band.range)
     }
 }
 

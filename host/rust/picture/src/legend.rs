@@ -1,7 +1,7 @@
 //! What the colours and marks mean, and the scale.
 
 use crate::colours::DISTINCT;
-use crate::layout::{Band, Kind};
+use crate::layout::{Band, Kind, Layout};
 use crate::mapping::PAGE;
 use crate::number::{count, size};
 use crate::picture::{Drawing, Sheet, MARGIN};
@@ -30,6 +30,23 @@ const KEEP: &str = "keep: what the page tables have can stay";
 /// The longest entry has to fit.
 pub fn least_width() -> f64 {
     INDENT + width_of(KEEP)
+}
+
+/// The left side of the scale's label.
+const SCALE: f64 = MARGIN + 12.0;
+
+/// The bytes that the bar of the scale shows.
+fn scale_bytes(layout: &Layout) -> u64 {
+    let mut bytes = PAGE;
+    while layout.scale * (bytes as f64) < LEAST_BAR {
+        bytes *= 2;
+    }
+    bytes
+}
+
+/// Where the entries can begin, beside the scale.
+pub fn least_start(layout: &Layout) -> f64 {
+    SCALE + width_of(&size(scale_bytes(layout))) + 12.0
 }
 
 impl Drawing<'_> {
@@ -78,10 +95,7 @@ impl Drawing<'_> {
 
     /// A bar, and how many bytes are as high as it. Gives its end.
     fn scale_bar(&mut self, top: f64) -> f64 {
-        let mut bytes = PAGE;
-        while self.layout.scale * (bytes as f64) < LEAST_BAR {
-            bytes *= 2;
-        }
+        let bytes = scale_bytes(&self.layout);
         let bottom = top + self.layout.scale * bytes as f64;
         let (left, middle, right) = (MARGIN, MARGIN + 4.0, MARGIN + 8.0);
         for (from, to) in [
@@ -92,7 +106,7 @@ impl Drawing<'_> {
             self.svg.line(&[from, to], STRONG);
         }
         self.svg
-            .text((right + 4.0, (top + bottom) / 2.0), "", &size(bytes));
+            .text((SCALE, (top + bottom) / 2.0), "", &size(bytes));
         bottom
     }
 

@@ -19,7 +19,7 @@ impl Range {
     /// A range of whole pages, one at least, that ends at or below the limit.
     fn of_pages(start: u64, size: u64) -> Option<Range> {
         let end = start.checked_add(size).filter(|&end| end <= LIMIT)?;
-        let whole = start.is_multiple_of(PAGE) && size.is_multiple_of(PAGE) && size != 0;
+        let whole = start % PAGE == 0 && size % PAGE == 0 && size != 0;
         whole.then_some(Range { start, end })
     }
 

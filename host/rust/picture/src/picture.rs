@@ -1,19 +1,22 @@
 //! The picture: an axis, a column before and one after, and the operations between them.
 
+mod beside;
+
 use crate::colours::Colours;
-use crate::column::{label, object_and_offset};
+use crate::column::Place;
 use crate::flow::{Boxes, GUTTER};
 use crate::layout::Layout;
 use crate::legend;
-use crate::mapping::{Mapping, Range, Space};
-use crate::number::{count, hex, size};
-use crate::place::{near_enough, thin_out};
+use crate::mapping::{Range, Space};
+use crate::number::{count, hex};
+use crate::place::thin_out;
 use crate::replay::Grant;
-use crate::svg::{width_of, Svg, FINE};
+use crate::svg::{width_of, Svg, DOTS, FINE};
+use beside::{beside, Beside, Side};
 
 pub const MARGIN: f64 = 16.0;
 pub const LINE: f64 = 15.0;
-pub const COLUMN: f64 = 190.0;
+pub const COLUMN: f64 = 204.0;
 
 /// Where the columns begin.
 pub const TOP: f64 = 78.0;
@@ -21,9 +24,8 @@ pub const TOP: f64 = 78.0;
 const TITLE: (f64, f64) = (MARGIN, 24.0);
 const TICK: f64 = 8.0;
 
-/// Between a column and the labels beside it, and how far below its mapping a label may stand.
+/// Between a column and the labels beside it.
 const LEAD: f64 = 28.0;
-const FARTHEST: f64 = 40.0;
 
 /// What is drawn. A table alone is the column after a grant that changed nothing.
 pub struct View {
@@ -33,12 +35,11 @@ pub struct View {
     pub alone: bool,
 }
 
-/// The left sides of the columns and of what is between and beside them.
+/// The left sides of the columns and of the boxes between them.
 pub struct Sheet {
     pub before: f64,
     pub boxes: f64,
     pub after: f64,
-    beside: f64,
     pub width: f64,
 }
 
@@ -49,58 +50,60 @@ pub struct Drawing<'a> {
     pub svg: Svg,
 }
 
-/// The label of a mapping that it does not fit into: where that is, and where the label stands.
-struct Beside {
-    words: String,
-    mapping: f64,
-    y: f64,
+/// A column's stretches, and the labels beside it.
+struct Column {
+    places: Vec<Place>,
+    beside: Vec<Beside>,
 }
 
-fn beside(layout: &Layout, table: &[Mapping]) -> Vec<Beside> {
-    let of_mapping = |mapping: &Mapping| {
-        let (top, bottom) = layout.span(&mapping.range)?;
-        let (start, bytes) = (hex(mapping.range.start), size(mapping.range.size()));
-        let middle = (top + bottom) / 2.0;
-        label(layout, mapping).is_none().then(|| Beside {
-            words: format!("{start}: {}, {bytes}", object_and_offset(mapping)),
-            mapping: middle,
-            y: middle,
-        })
+/// The columns before and after. On the left the labels share their room with the addresses, of
+/// which the space's own stay; a table alone has its labels on the right.
+fn columns(drawing: &Drawing) -> [Column; 2] {
+    let (top, bottom) = (TOP, drawing.layout.bottom());
+    let Grant { before, after, .. } = &drawing.view.grant;
+    let [before, after] = [before, after].map(|table| drawing.places(table));
+    let left = match drawing.view.alone {
+        true => Vec::new(),
+        false => beside(&before, (top + LINE / 2.0, bottom - LINE / 2.0)),
     };
-    let mut labels: Vec<Beside> = table.iter().filter_map(of_mapping).collect();
-    let middles: Vec<f64> = labels.iter().map(|label| label.mapping).collect();
-    let mut places = near_enough(&middles, LINE, FARTHEST).into_iter();
-    labels.retain_mut(|label| match places.next().flatten() {
-        Some(place) => {
-            label.y = place;
-            true
-        }
-        None => false,
-    });
-    labels
+    let right = beside(&after, (top - LINE / 2.0, bottom + LINE / 2.0));
+    [(before, left), (after, right)].map(|(places, beside)| Column { places, beside })
 }
 
 impl Sheet {
-    fn of(view: &View, boxes: &Boxes, labels: &[Beside]) -> Sheet {
+    fn of(drawing: &Drawing, boxes: &Boxes, [before, after]: &[Column; 2]) -> Sheet {
+        let Drawing { view, layout, .. } = drawing;
         let ends = [view.space.range.start, view.space.range.end].map(|end| width_of(&hex(end)));
-        let before = MARGIN + ends[0].max(ends[1]) + 2.0 * TICK;
-        let start = before + COLUMN + GUTTER;
-        let after = if view.alone {
-            before
-        } else {
-            start + boxes.width + GUTTER
+        let addresses = reach(before) + 4.0 + ends[0].max(ends[1]);
+        let beside = MARGIN + addresses.max(beside::width(&before.beside));
+        // The legend begins where the column does.
+        let left = on_dots(beside.max(legend::least_start(layout)));
+        let start = left + COLUMN + GUTTER;
+        let right = match view.alone {
+            true => left,
+            false => on_dots(start + boxes.width + GUTTER),
         };
-        let beside = after + COLUMN + LEAD;
-        let label_ends = labels.iter().map(|label| beside + width_of(&label.words));
         // The zigzags stand out a little.
-        let end = label_ends.fold(after + COLUMN + 3.0, f64::max);
+        let end = right + COLUMN + beside::width(&after.beside).max(3.0);
         Sheet {
-            before,
+            before: left,
             boxes: start,
-            after,
-            beside,
-            width: end.max(before + legend::least_width()) + MARGIN,
+            after: right,
+            width: end.max(left + legend::least_width()) + MARGIN,
         }
+    }
+}
+
+/// Where a column can begin, so that its sides cut no dots.
+fn on_dots(x: f64) -> f64 {
+    (x / DOTS).ceil() * DOTS
+}
+
+/// The length of an address's tick: it ends where the labels do, if there are any.
+fn reach(before: &Column) -> f64 {
+    match before.beside.is_empty() {
+        true => TICK,
+        false => LEAD - 4.0,
     }
 }
 
@@ -120,21 +123,19 @@ impl Drawing<'_> {
         }
     }
 
-    /// Addresses at the edges.
-    fn axis(&mut self, right: f64) {
-        let tops = self
-            .layout
-            .bands
-            .iter()
-            .map(|band| (band.range.start, band.top));
+    /// Addresses at the edges, where no label is in the way.
+    fn axis(&mut self, right: f64, before: &Column) {
+        let bands = self.layout.bands.iter();
+        let tops = bands.map(|band| (band.range.start, band.top));
         let end = (self.view.space.range.end, self.layout.bottom());
-        let edges: Vec<(u64, f64)> = tops.chain([end]).collect();
+        let is_free = |y: f64| !before.beside.iter().any(|one| one.is_in_the_way_of(y));
+        let edges: Vec<(u64, f64)> = tops.chain([end]).filter(|edge| is_free(edge.1)).collect();
         let ranked: Vec<(f64, u8)> = edges
             .iter()
             .map(|&(edge, y)| (y, self.rank(edge)))
             .collect();
         for ((edge, y), kept) in edges.into_iter().zip(thin_out(&ranked, LINE)) {
-            let tick = if kept { TICK } else { TICK / 2.0 };
+            let tick = if kept { reach(before) } else { TICK / 2.0 };
             self.svg.line(&[(right - tick, y), (right, y)], FINE);
             let weight = if self.rank(edge) == 0 {
                 "bold"
@@ -143,37 +144,29 @@ impl Drawing<'_> {
             };
             let style = format!(r#"text-anchor="end" font-weight="{weight}""#);
             if kept {
-                self.svg.text((right - TICK - 4.0, y), &style, &hex(edge));
+                self.svg.text((right - tick - 4.0, y), &style, &hex(edge));
             }
         }
     }
 
-    fn labels(&mut self, sheet: &Sheet, labels: &[Beside]) {
-        let right = sheet.after + COLUMN;
-        for label in labels {
-            let bend = [(right + 6.0, label.mapping), (sheet.beside - 10.0, label.y)];
-            let lead = [
-                (right, label.mapping),
-                bend[0],
-                bend[1],
-                (sheet.beside - 4.0, label.y),
-            ];
-            self.svg.line(&lead, FINE);
-            self.svg.text((sheet.beside, label.y), "", &label.words);
-        }
-    }
-
-    fn columns(&mut self, sheet: &Sheet, boxes: &Boxes) {
-        let Grant { before, after, .. } = &self.view.grant;
-        let [were, are] = [before, after].map(|table| count(table.len(), "mapping"));
+    fn columns(&mut self, sheet: &Sheet, boxes: &Boxes, [before, after]: &[Column; 2]) {
+        let Grant {
+            before: old,
+            after: new,
+            ..
+        } = &self.view.grant;
+        let [were, are] = [old, new].map(|table| count(table.len(), "mapping"));
         if self.view.alone {
-            self.column(sheet.after, &are, after);
-            return;
+            self.column(sheet.after, &are, &after.places);
+        } else {
+            self.flows(sheet, boxes);
+            self.column(sheet.before, &format!("before: {were}"), &before.places);
+            self.column(sheet.after, &format!("after: {are}"), &after.places);
+            self.boxes(sheet, boxes);
         }
-        self.flows(sheet, boxes);
-        self.column(sheet.before, &format!("before: {were}"), before);
-        self.column(sheet.after, &format!("after: {are}"), after);
-        self.boxes(sheet, boxes);
+        self.axis(sheet.before, before);
+        self.labels(sheet.before, Side::Left, &before.beside);
+        self.labels(sheet.after + COLUMN, Side::Right, &after.beside);
     }
 }
 
@@ -191,28 +184,23 @@ fn about(view: &View, boxes: &Boxes) -> String {
 /// The whole file.
 pub fn draw(view: &View) -> String {
     let layout = Layout::of(&view.space, &view.grant, TOP);
-    let labels = beside(&layout, &view.grant.after);
-    let boxes = Boxes::of(&view.grant, &layout);
-    let sheet = Sheet::of(view, &boxes, &labels);
     let mut drawing = Drawing {
         view,
+        colours: Colours::of(&view.grant, &layout),
         layout,
-        colours: Colours::of(&view.grant),
         svg: Svg::default(),
     };
+    let columns = columns(&drawing);
+    let boxes = Boxes::of(&view.grant, &drawing.layout);
+    let sheet = Sheet::of(&drawing, &boxes, &columns);
     let style = r#"font-size="15" font-weight="bold""#;
     drawing.svg.text(TITLE, style, &view.title);
-    drawing.columns(&sheet, &boxes);
-    drawing.axis(sheet.before);
-    drawing.labels(&sheet, &labels);
-    let bottom = labels
-        .last()
-        .map_or(boxes.bottom, |label| boxes.bottom.max(label.y + LINE));
-    let height = drawing.legend(&sheet, bottom + 24.0);
+    drawing.columns(&sheet, &boxes, &columns);
+    let height = drawing.legend(&sheet, boxes.bottom + 24.0);
     drawing
         .svg
         .file((sheet.width, height), &view.title, &about(view, &boxes))
 }
 
 #[cfg(test)]
-mod tests;
+pub mod tests;

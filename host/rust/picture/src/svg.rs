@@ -4,9 +4,12 @@
 /// letter.
 pub const FONT: f64 = 12.0;
 pub const SMALL: f64 = 11.0;
-const LETTER: f64 = 0.605 * FONT;
+const LETTER: f64 = 0.605;
 
-const INK: &str = "#1a1a1a";
+/// The dots of the pattern are as far apart.
+pub const DOTS: f64 = 6.0;
+
+pub const INK: &str = "#1a1a1a";
 
 /// Styles of what is drawn more than once.
 pub const WHITE: &str = r##"fill="#ffffff""##;
@@ -18,7 +21,11 @@ pub const HEADING: &str = r#"text-anchor="middle" font-weight="bold""#;
 
 /// The width of a text in the usual size.
 pub fn width_of(words: &str) -> f64 {
-    words.chars().count() as f64 * LETTER
+    width_in(words, FONT)
+}
+
+pub fn width_in(words: &str, font: f64) -> f64 {
+    words.chars().count() as f64 * LETTER * font
 }
 
 fn escaped(words: &str) -> String {
@@ -70,6 +77,17 @@ impl Svg {
         self.points("polygon", points, style);
     }
 
+    /// Dots over a rectangle. A thin one has a row of them: the pattern could miss it.
+    pub fn dots(&mut self, (x, y): (f64, f64), (width, height): (f64, f64)) {
+        if height >= 2.0 * DOTS {
+            self.rect((x, y), (width, height), r#"fill="url(#dots)""#);
+            return;
+        }
+        let middle = y + height / 2.0;
+        let style = r##"stroke="#444444" stroke-width="2" stroke-dasharray="2 4""##;
+        self.line(&[(x + 2.0, middle), (x + width - 2.0, middle)], style);
+    }
+
     /// Text whose middle is at the height `y`; `style` can have an anchor, a weight and a size.
     pub fn text(&mut self, (x, y): (f64, f64), style: &str, words: &str) {
         // Half of the height of a digit below the middle.
@@ -92,7 +110,7 @@ impl Svg {
 <desc>{about}</desc>
 <defs>
 <pattern id="hatch" width="7" height="7" patternUnits="userSpaceOnUse" patternTransform="rotate(45)"><rect width="7" height="7" fill="#ffffff"/><rect width="2" height="7" fill="#888888"/></pattern>
-<pattern id="dots" width="6" height="6" patternUnits="userSpaceOnUse"><circle cx="3" cy="3" r="1" fill="#444444"/></pattern>
+<pattern id="dots" width="{DOTS}" height="{DOTS}" patternUnits="userSpaceOnUse"><circle cx="3" cy="3" r="1" fill="#444444"/></pattern>
 </defs>
 <rect width="{width}" height="{height}" fill="#ffffff"/>
 {elements}</svg>

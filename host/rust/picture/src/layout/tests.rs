@@ -110,9 +110,9 @@ fn the_scale_goes_by_the_change() {
     }
     // The heap's 32 MiB behind them are broken, and the fence's page is a hairline.
     let heap = band_at(&texture, 0x500_0000);
-    let shown = (heap.height - STRIP) / texture.scale;
     assert!(texture.is_broken(&heap));
-    assert!((texture.left_out(&heap) as f64 + shown - 32.0 * 1024.0 * 1024.0).abs() < 2.0);
+    let middle = (heap.top + heap.bottom()) / 2.0;
+    assert_eq!(texture.breaks(&heap.range), [middle]);
     assert!(texture.is_hairline(&band_at(&texture, 0x22_0000).range));
     assert_eq!(band_at(&texture, 0x22_0000).height, HAIRLINE);
 }
@@ -131,22 +131,26 @@ fn long_gaps_are_shortened_and_a_page_is_not() {
     let (page, pages) = (&layout.bands[1], &layout.bands[3]);
     assert!(!layout.is_broken(page));
     assert!(layout.is_broken(pages));
-    assert_eq!(layout.left_out(pages), 2 * PAGE);
+    let all = Range {
+        start: 0,
+        end: 6 * PAGE,
+    };
+    assert_eq!(layout.breaks(&all), layout.breaks(&pages.range));
 }
 
 #[test]
 fn mappings_far_from_the_change_are_left_out() {
     let grant = grant(EVERY_LINE, 277);
     let layout = layout_around(&grant);
-    let folded: Vec<&Band> = layout
-        .bands
-        .iter()
-        .filter(|band| matches!(band.kind, Kind::Folded(_)))
-        .collect();
-    assert_eq!(folded.len(), 1);
+    let left_out: Vec<Range> = layout.left_out().collect();
+    let [range] = left_out[..] else {
+        panic!("{left_out:?}");
+    };
     // One of 255 is the new one, and four behind it are near.
-    assert_eq!(folded[0].kind, Kind::Folded(250));
-    assert_eq!(layout.left_out(folded[0]), folded[0].range.size());
+    for table in [&grant.before, &grant.after] {
+        let inside = table.iter().filter(|one| one.range.is_inside(&range));
+        assert_eq!(inside.count(), 250);
+    }
     let drawn = |table: &[Mapping]| {
         table
             .iter()
@@ -162,10 +166,7 @@ fn mappings_far_from_the_change_are_left_out() {
         after: grant.after,
     });
     for layout in [all, alone] {
-        assert!(!layout
-            .bands
-            .iter()
-            .any(|band| matches!(band.kind, Kind::Folded(_))));
+        assert_eq!(layout.left_out().count(), 0);
     }
 }
 
@@ -174,6 +175,6 @@ fn an_empty_space_is_one_gap() {
     let space = Space::of(0, 1 << 48, (0, 0)).unwrap();
     let layout = Layout::of(&space, &Grant::default(), TOP);
     assert_eq!(layout.bands.len(), 1);
-    assert_eq!(layout.left_out(&layout.bands[0]), 1 << 48);
+    assert_eq!(layout.breaks(&space.range).len(), 1);
     assert_eq!(layout.span(&space.range), Some((TOP, layout.bottom())));
 }

@@ -1,9 +1,14 @@
-//! Pictures of the examples: valid, nothing outside, no text over another.
+//! Pictures: valid, nothing outside, and nothing in the way of a text.
+
+pub mod generated;
+mod geometry;
+mod sizes;
 
 use super::*;
+use crate::mapping::Mapping;
 use crate::replay::replay;
 use crate::svg::tests::{elements, Element};
-use crate::svg::FONT;
+use geometry::{column_rooms, covers, cross, disturbs, is_filled, lines, overlap, room, Room};
 
 const WORKED: &str = include_str!("../../../../../examples/worked.out");
 const STARTUP: &str = include_str!("../../../../../examples/startup.out");
@@ -44,78 +49,51 @@ fn table(mappings: impl Iterator<Item = [u64; 4]>) -> View {
     }
 }
 
-/// The room of a text: left, top, right, bottom.
-fn text_room(text: &Element) -> [f64; 4] {
-    let size = text.number("font-size").unwrap_or(FONT);
-    let width = text.text.chars().count() as f64 * 0.602 * size;
-    let left = match text.get("text-anchor") {
-        None => text.number("x").unwrap(),
-        Some("middle") => text.number("x").unwrap() - width / 2.0,
-        Some("end") => text.number("x").unwrap() - width,
-        Some(other) => panic!("{other}"),
-    };
-    let base = text.number("y").unwrap();
-    [left, base - 0.76 * size, left + width, base + 0.24 * size]
-}
-
-/// The room of any element that has one of its own.
-fn room(element: &Element) -> Option<[f64; 4]> {
-    match element.name.as_str() {
-        "text" => Some(text_room(element)),
-        "rect" => {
-            let at = ["x", "y", "width", "height"].map(|name| element.number(name));
-            let [Some(x), Some(y), Some(width), Some(height)] = at else {
-                return None;
-            };
-            Some([x, y, x + width, y + height])
-        }
-        "polygon" | "polyline" => {
-            let mut room = [f64::MAX, f64::MAX, f64::MIN, f64::MIN];
-            for point in element.get("points").unwrap().split(' ') {
-                let (x, y) = point.split_once(',').unwrap();
-                let (x, y): (f64, f64) = (x.parse().unwrap(), y.parse().unwrap());
-                room = [
-                    room[0].min(x),
-                    room[1].min(y),
-                    room[2].max(x),
-                    room[3].max(y),
-                ];
-            }
-            Some(room)
-        }
-        _ => None,
-    }
-}
-
-fn check(view: &View) {
-    let elements = elements(&draw(view));
+fn check_inside(view: &View, elements: &[Element]) {
     let root = elements.last().unwrap();
-    let (width, height) = (
-        root.number("width").unwrap(),
-        root.number("height").unwrap(),
-    );
-    for element in &elements {
+    let [width, height] = ["width", "height"].map(|name| root.number(name).unwrap());
+    for element in elements {
         if let Some([left, top, right, bottom]) = room(element) {
             let inside = left >= 0.0 && top >= 0.0 && right <= width && bottom <= height;
             assert!(inside, "{}: {} {}", view.title, element.name, element.text);
         }
     }
-    let texts: Vec<&Element> = elements.iter().filter(|one| one.name == "text").collect();
-    for (at, one) in texts.iter().enumerate() {
-        for other in &texts[at + 1..] {
-            let (a, b) = (text_room(one), text_room(other));
-            let apart = a[2] <= b[0] || b[2] <= a[0] || a[3] <= b[1] || b[3] <= a[1];
-            assert!(
-                apart,
-                "{}: '{}' over '{}'",
-                view.title, one.text, other.text
-            );
+}
+
+/// Whether the text at `at` can be read where the other element is too.
+fn is_readable(elements: &[Element], at: usize, text: Room, other: usize) -> bool {
+    let element = &elements[other];
+    if other > at {
+        return !is_filled(element) && !disturbs(element, text);
+    }
+    let mut between = elements[other + 1..at].iter();
+    !disturbs(element, text) || between.any(|one| covers(one, text))
+}
+
+fn check(view: &View) {
+    let elements = elements(&draw(view));
+    check_inside(view, &elements);
+    let rooms: Vec<Option<Room>> = elements.iter().map(room).collect();
+    for (at, one) in elements.iter().enumerate() {
+        let Some(text) = rooms[at].filter(|_| one.name == "text") else {
+            continue;
+        };
+        let is_there = |&other: &usize| rooms[other].is_some_and(|room| overlap(room, text));
+        for other in (0..elements.len()).filter(is_there) {
+            let is_text = elements[other].name == "text";
+            let right = match is_text {
+                true => other == at,
+                false => is_readable(&elements, at, text, other),
+            };
+            let (name, words) = (&elements[other].name, &elements[other].text);
+            assert!(right, "{}: '{}' and {name} '{words}'", view.title, one.text);
         }
     }
 }
 
 #[test]
-fn nothing_is_outside_and_no_text_over_another() {
+fn nothing_is_outside_and_nothing_in_the_way_of_a_text() {
+    (0..300).for_each(|seed| check(&generated::view(seed)));
     check(&worked());
     (1..=10).for_each(|number| check(&startup(number)));
     // All but 5, which has no mapping, and those of a table that fills.
@@ -141,7 +119,7 @@ fn nor_in_a_table_alone() {
         [last, 0x1000, 0xffff_fffe, last],
     ];
     check(&table(ends.into_iter()));
-    // The lowest label, beside the last mapping, has room behind the column.
+    // The labels beside the last mappings stand above the column's end.
     let thin = |at: u64| [last - (7 - at) * 0x1000, 0x1000, at + 1, 0];
     check(&table(
         [[0, 1 << 40, 99, 0]].into_iter().chain((0..8).map(thin)),
@@ -204,15 +182,135 @@ fn a_keep_mark_is_told() {
 }
 
 #[test]
-fn thin_mappings_have_their_labels_beside_them() {
-    let texts = texts(&startup(7));
+fn thin_mappings_have_their_labels_beside_their_column() {
+    let elements = elements(&draw(&startup(7)));
+    let columns = column_rooms(&elements);
     for words in [
         "0x20_0000: object 1 + 0x0, 64 KiB",
         "0x21_0000: object 2 + 0x0, 64 KiB",
         "0x22_0000: object 3 + 0x0, 4 KiB",
     ] {
-        assert!(texts.iter().any(|text| text == words), "{words}");
+        let these = elements.iter().filter(|one| one.text == words);
+        let rooms: Vec<Room> = these.filter_map(room).collect();
+        assert_eq!(rooms.len(), 2, "{words}");
+        let on_the_left = rooms[0][2] < columns[0][0];
+        assert!(on_the_left && columns[1][2] < rooms[1][0], "{words}");
     }
+}
+
+#[test]
+fn a_hairline_has_no_outline() {
+    let elements = elements(&draw(&startup(7)));
+    let lines = || {
+        elements
+            .iter()
+            .filter(|one| one.number("height") == Some(2.0))
+    };
+    assert_eq!(lines().count(), 6);
+    assert!(lines().all(|one| one.get("stroke").is_none()));
+}
+
+#[test]
+fn a_thin_reservation_has_its_label_beside_the_columns() {
+    let texts = texts(&startup(5));
+    let reserved = texts
+        .iter()
+        .filter(|text| *text == "0x10_0000: reserved, 1 MiB");
+    assert_eq!(reserved.count(), 2);
+}
+
+#[test]
+fn each_thin_mapping_before_a_request_is_told() {
+    let thin = |at: u64| [at << 14, 0x1000, at + 1, 0];
+    let mut view = table((0..5).map(thin).chain([[1 << 30, 1 << 30, 9, 0]]));
+    let new = view.grant.after.pop().unwrap();
+    view.grant.before.pop();
+    view.alone = false;
+    view.grant.after.push(new);
+    view.grant.operations.push(crate::replay::Operation {
+        kind: crate::text::Kind::Map,
+        named: new,
+        keep: false,
+        rests: Vec::new(),
+    });
+    check(&view);
+    let texts = texts(&view);
+    for at in 0..5 {
+        let words = format!("{}: object {} + 0x0, 4 KiB", hex(at << 14), at + 1);
+        assert_eq!(
+            texts.iter().filter(|text| **text == words).count(),
+            2,
+            "{words}"
+        );
+    }
+}
+
+#[test]
+fn the_spaces_ends_are_told() {
+    for view in (0..300).map(generated::view) {
+        let elements = elements(&draw(&view));
+        for end in [view.space.range.start, view.space.range.end].map(hex) {
+            let is_it = |one: &Element| one.text == end && one.get("font-weight") == Some("bold");
+            assert!(elements.iter().any(is_it), "{}", view.title);
+        }
+    }
+}
+
+#[test]
+fn no_line_crosses_another_beside_the_columns() {
+    for view in (0..300).map(generated::view) {
+        let elements = elements(&draw(&view));
+        let columns = column_rooms(&elements);
+        let [first, last] = [columns[0], columns[columns.len() - 1]];
+        let is_beside = |line: &Room| {
+            let (left, right) = (line[0].min(line[2]), line[0].max(line[2]));
+            line[1] <= first[3] && (right <= first[0] || last[2] <= left)
+        };
+        let polylines = elements.iter().filter(|one| one.name == "polyline");
+        let lines: Vec<Room> = polylines.flat_map(lines).filter(is_beside).collect();
+        for (at, line) in lines.iter().enumerate() {
+            let crossed = lines[at + 1..].iter().any(|other| cross(*line, *other));
+            assert!(!crossed, "{}: {line:?}", view.title);
+        }
+    }
+}
+
+#[test]
+fn a_label_stands_between_whole_dots() {
+    let view = table((0..20).map(|at| [at << 14, 0x4000, at + 1, 0]));
+    let elements = elements(&draw(&view));
+    let column = column_rooms(&elements)[0];
+    let dotted: Vec<usize> = (0..elements.len())
+        .filter(|&at| elements[at].get("fill") == Some("url(#dots)"))
+        .filter(|&at| elements[at].number("width") == Some(COLUMN))
+        .collect();
+    assert_eq!(dotted.len(), 8);
+    let on_dots = |x: f64| (x / DOTS).fract() == 0.0;
+    assert!(on_dots(column[0]) && on_dots(column[2]));
+    for at in dotted {
+        // The outline lies over the dots; the plate comes later, with the labels.
+        assert_eq!(elements[at + 1].get("fill"), Some("none"));
+        assert_eq!(room(&elements[at + 1]), room(&elements[at]));
+        let [left, top, right, bottom] = room(&elements[at]).unwrap();
+        let is_plate =
+            |room: &Room| left < room[0] && top < room[1] && room[2] < right && room[3] < bottom;
+        let rooms = elements[at + 1..].iter().filter(|one| one.name == "rect");
+        let plates: Vec<Room> = rooms.filter_map(room).filter(is_plate).collect();
+        assert_eq!(plates.len(), 1);
+        assert!(on_dots(plates[0][0]) && on_dots(plates[0][2]));
+    }
+}
+
+#[test]
+fn the_legend_stands_beside_the_scale() {
+    // The axis is narrower than the scale's label with the room behind it.
+    let mut view = table([[0, 0x8000, 7, 0]].into_iter());
+    view.space = Space::of(0, 0x8000, (0, 0)).unwrap();
+    let elements = elements(&draw(&view));
+    let scale = elements.iter().find(|one| one.text == "4 KiB").unwrap();
+    let is_mark = |one: &&Element| one.get("fill") == Some("#77aadd");
+    let mark = elements.iter().rev().find(is_mark).unwrap();
+    assert!(room(scale).unwrap()[2] + 10.0 < mark.number("x").unwrap());
 }
 
 #[test]

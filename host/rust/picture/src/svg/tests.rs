@@ -121,6 +121,22 @@ fn a_file_is_well_formed() {
 }
 
 #[test]
+fn a_thin_rectangle_has_a_row_of_dots_in_it() {
+    let dots = |height: f64| {
+        let mut svg = Svg::default();
+        svg.dots((6.0, 20.0), (60.0, height));
+        let mut elements = elements(&format!("<svg>\n{}</svg>\n", svg.elements));
+        assert_eq!(elements.len(), 2);
+        elements.remove(0)
+    };
+    let row = dots(2.0);
+    assert_eq!(row.get("points"), Some("8,21 64,21"));
+    assert_eq!(row.get("stroke-dasharray"), Some("2 4"));
+    assert_eq!(dots(11.0).get("points"), Some("8,25.5 64,25.5"));
+    assert_eq!(dots(12.0).get("fill"), Some("url(#dots)"));
+}
+
+#[test]
 fn what_is_not_well_formed_is_seen() {
     for file in [
         "<a>",
