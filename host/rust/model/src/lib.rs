@@ -41,7 +41,7 @@ pub const PAGE: u64 = 4096;
 pub const LIMIT: u128 = 1 << 48;
 
 pub fn is_page_multiple(value: u64) -> bool {
-    value.is_multiple_of(PAGE)
+    value % PAGE == 0
 }
 
 /// The answer to a request record: the record first, then the space, then the request in it.

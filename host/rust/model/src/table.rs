@@ -8,7 +8,7 @@ pub const MOST_MAPPINGS: usize = 512;
 
 /// Whether a table may have this many words.
 pub fn length_holds(words: usize) -> bool {
-    words != 0 && words.is_multiple_of(MAPPING_WORDS) && words <= MOST_MAPPINGS * MAPPING_WORDS
+    words != 0 && words % MAPPING_WORDS == 0 && words <= MOST_MAPPINGS * MAPPING_WORDS
 }
 
 /// The number of mappings that there is room for.

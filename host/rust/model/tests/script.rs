@@ -1,5 +1,6 @@
 //! The model's output for scripts, worked out by hand.
 
+use std::fmt::Display;
 use waylluqen_model::{script, write, Record, Space, PAGE, SCRIPT_MAPPINGS};
 
 const MAP: u32 = 0;
@@ -35,7 +36,7 @@ fn plain_space() -> Vec<u8> {
 }
 
 /// These records make these lines.
-fn prints(records: &[Vec<u8>], lines: &[&str]) {
+fn prints(records: &[Vec<u8>], lines: &[impl Display]) {
     let lines: String = lines.iter().map(|line| format!("{line}\n")).collect();
     assert_eq!(script(&records.concat()), lines);
 }
@@ -113,7 +114,7 @@ fn numbers_are_decimal_and_whole() {
 
 /// Each operation with each of its rests, and both keep marks.
 #[test]
-fn operations() {
+fn operations_with_a_keep_mark() {
     prints(
         &[
             plain_space(),
@@ -122,12 +123,6 @@ fn operations() {
             map(0, 4 * PAGE, 7, 0),
             // The start alone: an upper rest, keep 1.
             map(0, PAGE, 7, 0),
-            // The end alone: a lower rest.
-            unmap(3 * PAGE, 2 * PAGE),
-            // The start of another object, then nothing, then the rest.
-            map(PAGE, PAGE, 9, 5 * PAGE),
-            unmap(8 * PAGE, PAGE),
-            unmap(0, 16 * PAGE),
         ],
         &[
             "space 256",
@@ -140,16 +135,36 @@ fn operations() {
             "remap 0 16384 7 0 keep 1",
             "upper 4096 12288 7 4096",
             "map 0 4096 7 0",
-            "granted 1 2",
+        ],
+    );
+}
+
+#[test]
+fn operations_that_keep_nothing() {
+    prints(
+        &[
+            plain_space(),
+            map(PAGE, 3 * PAGE, 7, PAGE),
+            // The end alone: a lower rest.
+            unmap(3 * PAGE, 2 * PAGE),
+            // The start, for another object; then nothing, then all that is left.
+            map(PAGE, PAGE, 9, 5 * PAGE),
+            unmap(8 * PAGE, PAGE),
+            unmap(0, 16 * PAGE),
+        ],
+        &[
+            "space 256",
+            "granted 1 1",
+            "map 4096 12288 7 4096",
+            "granted 1 1",
             "remap 4096 12288 7 4096 keep 0",
             "lower 4096 8192 7 4096",
-            "granted 2 3",
+            "granted 2 2",
             "remap 4096 8192 7 4096 keep 0",
             "upper 8192 4096 7 8192",
             "map 4096 4096 9 20480",
-            "granted 0 3",
-            "granted 3 0",
-            "unmap 0 4096 7 0 keep 0",
+            "granted 0 2",
+            "granted 2 0",
             "unmap 4096 4096 9 20480 keep 0",
             "unmap 8192 4096 7 8192 keep 0",
         ],
@@ -226,45 +241,32 @@ fn before_any_space() {
 fn refused_requests() {
     let raw = |record: Record| write::request(&record).to_vec();
     let good = Record::plain(MAP, 7, 0, 0, PAGE);
-    prints(
-        &[
-            space(0, 16 * PAGE, 8 * PAGE, 2 * PAGE),
-            raw(Record { op: 2, ..good }),
-            raw(Record { op: 256, ..good }),
-            raw(Record { flags: 8, ..good }),
-            raw(Record { pad: 1, ..good }),
-            map(1, PAGE, 7, 0),
-            map(0, 0, 7, 0),
-            map(15 * PAGE, 2 * PAGE, 7, 0),
-            map(u64::MAX - PAGE + 1, 2 * PAGE, 7, 0),
-            map(7 * PAGE, 2 * PAGE, 7, 0),
-            unmap(9 * PAGE, PAGE),
-            map(0, PAGE, 0, 0),
-            raw(Record { op: UNMAP, ..good }),
-            map(0, 2 * PAGE, 7, LIMIT - PAGE),
-            map(0, 2 * PAGE, 7, u64::MAX - PAGE + 1),
-            // Nothing has come of them.
-            unmap(0, 8 * PAGE),
-        ],
-        &[
-            "space 256",
-            "refused 13",
-            "refused 13",
-            "refused 14",
-            "refused 14",
-            "refused 6",
-            "refused 6",
-            "refused 7",
-            "refused 7",
-            "refused 8",
-            "refused 8",
-            "refused 9",
-            "refused 9",
-            "refused 10",
-            "refused 10",
-            "granted 0 0",
-        ],
-    );
+    let refused = [
+        (raw(Record { op: 2, ..good }), 13),
+        (raw(Record { op: 256, ..good }), 13),
+        (raw(Record { flags: 8, ..good }), 14),
+        (raw(Record { pad: 1, ..good }), 14),
+        (map(1, PAGE, 7, 0), 6),
+        (map(0, 0, 7, 0), 6),
+        (map(15 * PAGE, 2 * PAGE, 7, 0), 7),
+        (map(u64::MAX - PAGE + 1, 2 * PAGE, 7, 0), 7),
+        (map(7 * PAGE, 2 * PAGE, 7, 0), 8),
+        (unmap(9 * PAGE, PAGE), 8),
+        (map(0, PAGE, 0, 0), 9),
+        (raw(Record { op: UNMAP, ..good }), 9),
+        (map(0, 2 * PAGE, 7, LIMIT - PAGE), 10),
+        (map(0, 2 * PAGE, 7, u64::MAX - PAGE + 1), 10),
+    ];
+    let mut records = vec![space(0, 16 * PAGE, 8 * PAGE, 2 * PAGE)];
+    let mut lines = vec!["space 256".to_string()];
+    for (record, number) in refused {
+        records.push(record);
+        lines.push(format!("refused {number}"));
+    }
+    // Nothing has come of them.
+    records.push(unmap(0, 8 * PAGE));
+    lines.push("granted 0 0".to_string());
+    prints(&records, &lines);
 }
 
 /// 256 mappings are all; room that a request frees counts.
