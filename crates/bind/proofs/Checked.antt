@@ -2,14 +2,14 @@
 -- Assumes nothing.
 use mathlib.Core.Path.{_≡_, sym, _∙_}
 use mathlib.Core.List.{List, [], _∷_}
-use Prim.Native.Nat.{ℕ}
+use Prim.Native.Nat.{ℕ, zero, suc, _≤_}
 use lib.Dec.{eqb→eq}
 use Rattle.model.specs.declared.Request.{Request}
 use Rattle.model.specs.declared.Space.{Space}
 use Rattle.model.specs.Rows.{Row, Reply, answered, verdict}
-use Rattle.model.specs.Rules.{requestRows}
+use Rattle.model.specs.Rules.{limit, objectTests, offsetTests, requestRows}
 use Rattle.model.specs.Table.{Table, mappings, operationsRow, tableRows}
-use Rattle.model.proofs.Tests.{tests}
+use Rattle.model.proofs.Tests.{tests, Alls}
 use Rattle.model.proofs.Rows.{passed-split, answered-passed, andThen, decide-append}
 use Rattle.model.proofs.Groups.{TablePassed, table-passed, RequestPassed, request-passed}
 use Rattle.model.proofs.Store.{length-mappings}
@@ -17,6 +17,14 @@ use Rattle.model.proofs.Operations.{operations-most}
 use Rattle.table.specs.Places.{Valid}
 use Rattle.change.specs.Change.{Ready}
 use Rattle.bind.specs.Bound.{checkedRows}
+
+-- a map's offset and size end by 2^48, and an unmap has no offset
+offset-most : {s : Space} (r : Request) → RequestPassed s r → r .offset ≤ limit
+offset-most r p = go (r .op) (p .object) (p .offset)
+  where
+    go : (op : ℕ) → Alls (objectTests op r) → Alls (offsetTests op r) → r .offset ≤ limit
+    go zero h k = omega (tests, k)
+    go (suc n) h k = omega (tests, h)
 
 module _ (s : Space) (t : Table) where
   valid-by : {between : List Row} → TablePassed s between t → Valid (t .words) (t .count)
@@ -43,6 +51,7 @@ module _ (s : Space) (t : Table) where
         table = valid-by rows;
         not-empty = omega (tests, ask .alignment);
         stop-most = omega (tests, ask .range, rows .space);
+        offset-most = offset-most r ask;
         room = λ _. omega (tests, rows .others, rows .count, operations-most r (mappings t), length-mappings (t .count) (t .words));
       }
 

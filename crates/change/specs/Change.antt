@@ -18,6 +18,7 @@ pub record Ready (r : Request) (t : Table) (n : ℕ) : Type 0 where
   pub table : Valid (t .words) (t .count)
   pub not-empty : 0 < r .size
   pub stop-most : stop r ≤ limit
+  pub offset-most : r .offset ≤ limit
   pub room : length (after r (mappings t)) ≤ capacity t → 14 * length (operations r (mappings t)) ≤ n
 
 -- the mappings hit are those from place lo up to hi: lo is the first that ends behind the range's first byte, and hi

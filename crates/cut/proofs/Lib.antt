@@ -1,3 +1,4 @@
 pub mod Cases
+pub mod Signed
 pub mod Written
 pub mod Reading

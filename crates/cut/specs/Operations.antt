@@ -21,6 +21,10 @@ pub record Cuttable (r : Request) (m : Mapping) : Type 0 where
   pub end-most : end m ≤ limit
   pub offset-most : m .offset + m .size ≤ limit
 
+-- the displacement fits in 64 bits with a sign
+abbrev pub Bounded : Mapping → Type 0
+Bounded m = (m .address ≤ limit) × (m .offset ≤ limit)
+
 -- an absent rest as a mapping
 abbrev pub absentRest : Mapping
 absentRest = record { address = 0; size = 0; object = 0; offset = 0 }
@@ -54,4 +58,5 @@ pub record Hits (r : Request) (ws : List ℕ) (lo hi n : ℕ) : Type 0 where
   pub high : hi ≤ count
   pub not-empty : 0 < r .size
   pub stop-most : stop r ≤ limit
+  pub offset-most : r .offset ≤ limit
   pub room : 14 * length (operationsFor r (between ws lo hi)) ≤ n

@@ -11,12 +11,13 @@ ghost use mathlib.Core.List.{flatMap};
 ghost use Prim.Native.Nat.{_+_, _-_, _*_, _≤_, _<_};
 ghost use lib.Dec.{leb};
 ghost use lib.ListN.{length};
+ghost use Rattle.model.specs.Rows.{all};
 ghost use Rattle.model.specs.Rules.{limit, stop};
-ghost use Rattle.model.specs.Cut.{lowerPart, upperPart, mappingOf, keepMark, operationOf};
+ghost use Rattle.model.specs.Cut.{lowerPart, upperPart, mappingOf, displacement, agreeTests, keepMark, operationOf};
 ghost use Rattle.model.specs.Layout.{operationWords, isAbsent, restsIn, operationBy, operationIn, listedOperation};
 ghost use Rattle.words.specs.Words.{stored};
 ghost use Rattle.table.specs.Places.{between};
-ghost use Rattle.cut.specs.Operations.{Cuttable, parts, lowerOf, upperOf, absentRest, hitOperations, operationsFor, Hits};
+ghost use Rattle.cut.specs.Operations.{Cuttable, Bounded, parts, lowerOf, upperOf, absentRest, hitOperations, operationsFor, Hits};
 
 // The words of an operation, and its kinds.
 const OPERATION_WORDS: usize = 14;
@@ -46,11 +47,34 @@ pub fn new_mapping(r: Request) -> Mapping
     }
 }
 
-// Document 01: keep.
+// Document 02: displacement, the offset less the address, which may be below zero.
+fn displacement(m: Mapping) -> i64
+    requires { ⌜ Bounded m ⌝ }
+    ensures { λ d. ⌜ d ≡ displacement m ⌝ }
+{
+    let offset = m.offset as i64;
+    let address = m.address as i64;
+    offset - address
+}
+
+// The same object and displacement.
+fn agree(m: Mapping, n: Mapping) -> bool
+    requires { ⌜ Bounded m × Bounded n ⌝ }
+    ensures { λ b. ⌜ b ≡ all (agreeTests m n) ⌝ }
+{
+    let one = displacement(m);
+    let other = displacement(n);
+    (m.object == n.object) & (one == other)
+}
+
+// Document 02: keep.
 fn keep_mark(r: Request, m: Mapping) -> bool
+    requires { ⌜ Cuttable r m × (r .offset ≤ limit) ⌝ }
     ensures { λ k. ⌜ k ≡ keepMark r m ⌝ }
 {
-    (r.op == 0) & (m.address == r.address) & (m.object == r.object) & (m.offset == r.offset)
+    let asked = new_mapping(r);
+    let same = agree(m, asked);
+    (r.op == 0) & same
 }
 
 // How far `to` lies behind `from`; 0 where it does not.
@@ -98,7 +122,7 @@ pub fn upper_part(r: Request, m: Mapping) -> Mapping
 
 // The operation of a mapping that is hit: what is left of it decides.
 fn operation_of(r: Request, m: Mapping) -> Operation
-    requires { ⌜ Cuttable r m ⌝ }
+    requires { ⌜ Cuttable r m × (r .offset ≤ limit) ⌝ }
     ensures { λ o. ⌜ o ≡ operationOf r m ⌝ }
 {
     let keep = keep_mark(r, m);

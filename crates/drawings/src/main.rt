@@ -1,5 +1,5 @@
-// The sixteen drawings of document 000, read without joining, and the unmarked rows of document 01's
-// table. Each row is asked of the public call, and every word that the call answers and leaves is
+// The sixteen drawings of document 000, read without joining, the unmarked rows of document 01's table, and the keep mark
+// of document 02. Each row is asked of the public call, and every word that the call answers and leaves is
 // compared with the words that the row expects.
 mod rows;
 mod show;
@@ -185,7 +185,8 @@ fn run(text: &[u8]) {
 
 // A row: label; old mappings; what to map; the operations, each with its kind, keep, mapping, lower
 // and upper rest, or a refusal; the mappings afterwards. In pages: [0,2) 7@1 is object 7 at page
-// offset 1. A `-` is an absent rest. 1 to 16 are document 000's, 17 to 19 document 01's unmarked ones.
+// offset 1. A `-` is an absent rest. 1 to 16 are document 000's, 17 to 19 document 01's unmarked ones. 20 to 23 are of
+// document 02's keep mark: 13 and 14 with contiguous offsets; offsets below the address; one below it and one above.
 fn main() {
     show::text(b"| | old | request | result | table afterwards |\n|---|---|---|---|---|\n");
     run(
@@ -196,11 +197,11 @@ fn main() {
 | 5 | [0,2) 7@1 | [0,1) 9@1 | remap keep 0 [0,2) 7@1 - [1,2) 7@2, map keep 0 [0,1) 9@1 - - | [0,1) 9@1, [1,2) 7@2 |
 | 6 | [0,2) 7@1 | [0,1) 7@1 | remap keep 1 [0,2) 7@1 - [1,2) 7@2, map keep 0 [0,1) 7@1 - - | [0,1) 7@1, [1,2) 7@2 |
 | 7 | [0,2) 7@1 | [1,2) 9@4 | remap keep 0 [0,2) 7@1 [0,1) 7@1 -, map keep 0 [1,2) 9@4 - - | [0,1) 7@1, [1,2) 9@4 |
-| 8 | [0,2) 7@1 | [1,2) 7@2 | remap keep 0 [0,2) 7@1 [0,1) 7@1 -, map keep 0 [1,2) 7@2 - - | [0,1) 7@1, [1,2) 7@2 |
+| 8 | [0,2) 7@1 | [1,2) 7@2 | remap keep 1 [0,2) 7@1 [0,1) 7@1 -, map keep 0 [1,2) 7@2 - - | [0,1) 7@1, [1,2) 7@2 |
 | 9 | [0,2) 7@1 | [1,3) 9@4 | remap keep 0 [0,2) 7@1 [0,1) 7@1 -, map keep 0 [1,3) 9@4 - - | [0,1) 7@1, [1,3) 9@4 |
-| 10 | [0,2) 7@1 | [1,3) 7@2 | remap keep 0 [0,2) 7@1 [0,1) 7@1 -, map keep 0 [1,3) 7@2 - - | [0,1) 7@1, [1,3) 7@2 |
+| 10 | [0,2) 7@1 | [1,3) 7@2 | remap keep 1 [0,2) 7@1 [0,1) 7@1 -, map keep 0 [1,3) 7@2 - - | [0,1) 7@1, [1,3) 7@2 |
 | 11 | [0,3) 7@1 | [1,2) 9@4 | remap keep 0 [0,3) 7@1 [0,1) 7@1 [2,3) 7@3, map keep 0 [1,2) 9@4 - - | [0,1) 7@1, [1,2) 9@4, [2,3) 7@3 |
-| 12 | [0,3) 7@1 | [1,2) 7@2 | remap keep 0 [0,3) 7@1 [0,1) 7@1 [2,3) 7@3, map keep 0 [1,2) 7@2 - - | [0,1) 7@1, [1,2) 7@2, [2,3) 7@3 |
+| 12 | [0,3) 7@1 | [1,2) 7@2 | remap keep 1 [0,3) 7@1 [0,1) 7@1 [2,3) 7@3, map keep 0 [1,2) 7@2 - - | [0,1) 7@1, [1,2) 7@2, [2,3) 7@3 |
 | 13 | [1,2) 7@1 | [0,2) 7@1 | unmap keep 0 [1,2) 7@1 - -, map keep 0 [0,2) 7@1 - - | [0,2) 7@1 |
 | 14 | [1,2) 7@1 | [0,3) 7@1 | unmap keep 0 [1,2) 7@1 - -, map keep 0 [0,3) 7@1 - - | [0,3) 7@1 |
 | 15 | [1,3) 7@1 | [0,2) 9@4 | remap keep 0 [1,3) 7@1 - [2,3) 7@2, map keep 0 [0,2) 9@4 - - | [0,2) 9@4, [2,3) 7@2 |
@@ -208,6 +209,10 @@ fn main() {
 | 17, capacity 3 | [0,3) 7@1 | [1,2) 9@4 | remap keep 0 [0,3) 7@1 [0,1) 7@1 [2,3) 7@3, map keep 0 [1,2) 9@4 - - | [0,1) 7@1, [1,2) 9@4, [2,3) 7@3 |
 | 18 | none | [15,16) 9@0 | map keep 0 [15,16) 9@0 - - | [15,16) 9@0 |
 | 19 | [0,3) 7@1 | [20,20) 9@0 | refused 6 | [0,3) 7@1 |
+| 20 | [1,2) 7@1 | [0,2) 7@0 | unmap keep 1 [1,2) 7@1 - -, map keep 0 [0,2) 7@0 - - | [0,2) 7@0 |
+| 21 | [1,2) 7@1 | [0,3) 7@0 | unmap keep 1 [1,2) 7@1 - -, map keep 0 [0,3) 7@0 - - | [0,3) 7@0 |
+| 22 | [2,5) 7@0 | [3,4) 7@1 | remap keep 1 [2,5) 7@0 [2,3) 7@0 [4,5) 7@2, map keep 0 [3,4) 7@1 - - | [2,3) 7@0, [3,4) 7@1, [4,5) 7@2 |
+| 23 | [1,2) 7@0 | [1,2) 7@2 | unmap keep 0 [1,2) 7@0 - -, map keep 0 [1,2) 7@2 - - | [1,2) 7@2 |
 ",
     );
 }

@@ -11,4 +11,4 @@ use Rattle.model.specs.Drawings.{drawings, Drawings}
 
 pub as-drawn : Drawings
 unfolding drawings bind bindRows decide formRows tableRows requestRows mappingsIn badPlace below above hits operations flatMap
-as-drawn = (refl, (refl, (refl, (refl, (refl, (refl, (refl, (refl, (refl, (refl, (refl, (refl, tt))))))))))))
+as-drawn = (refl, (refl, (refl, (refl, (refl, (refl, (refl, (refl, (refl, (refl, (refl, (refl, (refl, (refl, (refl, (refl, tt))))))))))))))))

@@ -6,35 +6,39 @@ use mathlib.Core.Bool.{Bool, true, false}
 use mathlib.Core.List.{List, [], _∷_, map, List·Memᴰ·head, List·Memᴰ·tail, List·Memᴰ·not-nil}
 use Prim.Native.Nat.{ℕ, zero, suc}
 use native.Mathlib.Omega.{arith}
-use lib.Dec.{T}
+use lib.Dec.{T, eqb→eq}
 use lib.ListN.{getD}
 use Rattle.model.specs.Prelude.{Mapping, Request, Lower, Upper, Both, Operation, Map, Remap, Unmap}
 use Rattle.model.specs.Rows.{choose}
 use Rattle.model.specs.Rules.{stop}
-use Rattle.model.specs.Cut.{lowerPart, upperPart, new, hits, keepTests, keepMark, operationFor, operationOf, operations, old}
+use Rattle.model.specs.Cut.{lowerPart, upperPart, mappingOf, new, hits, keepTests, keepMark, operationFor, operationOf, operations, old}
 use Rattle.model.specs.Layout.{operationWords}
-use Rattle.model.specs.Exactly.{Each, _∈_}
+use Rattle.model.specs.Exactly.{Each, _∈_, Agree}
 use Rattle.model.specs.Grants.{Marked, Keep}
-use Rattle.model.proofs.Tests.{tests, all-facts, all-true}
+use Rattle.model.proofs.Tests.{eq→eqb, all-facts, all-true}
+use Rattle.model.proofs.Agreement.{agree-says}
 use Rattle.model.proofs.Actions.{each-append}
 
-abbrev Agrees : Request → Mapping → Type 0
-Agrees r m = (r .op ≡ 0) × (m .address ≡ r .address) × (m .object ≡ r .object) × (m .offset ≡ r .offset)
+abbrev Kept : Request → Mapping → Type 0
+Kept r m = (r .op ≡ 0) × Agree m (mappingOf r)
 
-mark-agrees : (r : Request) (m : Mapping) → (keepMark r m ≡ true) ↔ Agrees r m
-mark-agrees r m = (λ e. omega (tests, all-facts (keepTests r m) e), λ h. all-true (keepTests r m) (omega tests))
+mark-kept : (r : Request) (m : Mapping) → (keepMark r m ≡ true) ↔ Kept r m
+mark-kept r m = (
+  λ e. let t = all-facts (keepTests r m) e in (eqb→eq _ _ (t .0), agree-says m (mappingOf r) .0 (t .1)),
+  λ h. all-true (keepTests r m) (eq→eqb _ _ (h .0), agree-says m (mappingOf r) .1 (h .1)),
+)
 
 -- an operation with the old mapping m alone, and a word that tells the mark
 marked-by : (r : Request) (m : Mapping) (keep : Bool) (o : Operation) (word : ℕ) → keep ≡ keepMark r m → old o ≡ m ∷ [] → word ≡ choose keep 1 0
     → Marked r o word
 marked-by r m true o word k e w =
-    let a = mark-agrees r m .0 (sym k) in
-    (omega arith, (λ _. (m, rw e (List·Memᴰ·head refl), a .0, a .1, a .2, a .3), λ _. w))
+    let a = mark-kept r m .0 (sym k) in
+    (omega arith, (λ _. (m, rw e (List·Memᴰ·head refl), a .0, a .1), λ _. w))
 marked-by r m false o word k e w =
-    (omega arith, (λ i. absurd (omega arith), λ h. absurd (clash (mark-agrees r m .1 (here (h .0) (rw e at (h .1)) (h .2, h .3, h .4, h .5))))))
+    (omega arith, (λ i. absurd (omega arith), λ h. absurd (clash (mark-kept r m .1 (here (h .0) (rw e at (h .1)) (h .2, h .3))))))
   where
-    here : (n : Mapping) → n ∈ (m ∷ []) → Agrees r n → Agrees r m
-    here n (List·Memᴰ·head p) a = subst (Agrees r) p a
+    here : (n : Mapping) → n ∈ (m ∷ []) → Kept r n → Kept r m
+    here n (List·Memᴰ·head p) a = subst (Kept r) p a
     here n (List·Memᴰ·tail i) a = absurd (List·Memᴰ·not-nil i)
 
     clash : keepMark r m ≡ true → ⊥

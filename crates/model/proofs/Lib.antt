@@ -10,6 +10,7 @@ pub mod New
 pub mod Hits
 pub mod OperationWords
 pub mod Operations
+pub mod Agreement
 pub mod Keep
 pub mod Left
 pub mod Counts

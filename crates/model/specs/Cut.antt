@@ -1,6 +1,6 @@
 -- How a request cuts the old mappings (document 01), what it hands the driver for them, and what a byte address shows:
 -- of any list of mappings.
-use Rattle.model.specs.Prelude.{Bool, List, [], _∷_, _++_, map, ℕ, zero, suc, _+_, _-_, min, max, leb, ltb, eqb, Mapping, Request, Rests, Lower, Upper, Both, Operation, Map, Remap, Unmap, Shown, Nothing, Object}
+use Rattle.model.specs.Prelude.{Bool, false, List, [], _∷_, _++_, map, ℕ, zero, suc, _+_, _-_, min, max, leb, ltb, eqb, ℤ, pos, negsuc, subℕ, Mapping, Request, Rests, Lower, Upper, Both, Operation, Map, Remap, Unmap, Shown, Nothing, Object}
 use Rattle.model.specs.Rows.{all, choose}
 use Rattle.model.specs.Rules.{end, stop, apart}
 
@@ -58,9 +58,23 @@ unfoldable pub hits : Request → List Mapping → List Mapping
 hits r [] = []
 hits r (m ∷ ms) = choose (spared r m) (hits r ms) (m ∷ hits r ms)
 
--- document 01: keep
+-- document 02: displacement, the offset less the address, which may be below zero
+abbrev pub displacement : Mapping → ℤ
+displacement m = subℕ (m .offset) (m .address)
+
+abbrev pub eqZ : ℤ → ℤ → Bool
+eqZ (pos a) (pos b) = eqb a b
+eqZ (negsuc a) (negsuc b) = eqb a b
+eqZ (pos a) (negsuc b) = false
+eqZ (negsuc a) (pos b) = false
+
+-- the same object and displacement: mappings that show the same at an address where both have a byte
+abbrev pub agreeTests : Mapping → Mapping → List Bool
+agreeTests m n = eqb (m .object) (n .object) ∷ eqZ (displacement m) (displacement n) ∷ []
+
+-- document 02: keep. The request is a map, and the old mapping agrees with the one that it asks for
 abbrev pub keepTests : Request → Mapping → List Bool
-keepTests r m = eqb (r .op) 0 ∷ eqb (m .address) (r .address) ∷ eqb (m .object) (r .object) ∷ eqb (m .offset) (r .offset) ∷ []
+keepTests r m = eqb (r .op) 0 ∷ agreeTests m (mappingOf r)
 
 abbrev pub keepMark : Request → Mapping → Bool
 keepMark r m = all (keepTests r m)

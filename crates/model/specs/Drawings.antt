@@ -1,4 +1,5 @@
--- The drawings marked P in document 01, as one listing: words in and words out of the public call, computed.
+-- The drawings marked P in document 01, and document 02's of the keep mark, as one listing: words in and words out of
+-- the public call, computed.
 use Rattle.model.specs.Prelude.{_≡_, List, [], _∷_, _++_, ℕ, _+_, _-_, _*_, length, replicate, Grant}
 use Rattle.model.specs.Calls.{Reply, answered, Asking, numbers, bind, spaceOf}
 use Rattle.model.specs.Exactly.{Each, refusal}
@@ -59,6 +60,13 @@ drawings =
     ∷ granted [] (ask 1 3 4 0 0) [] []
     ∷ refusing 8 [] (ask 0 15 17 9 0) 7
     ∷ refusing 2 (at 0 3 7 1 ∷ []) (ask 0 1 2 9 4) 11
+    -- document 02: keep by displacement; below zero; not by a distance alone; two of three
+    ∷ granted (at 0 2 7 1 ∷ []) (ask 0 1 2 7 2) (remapped 1 (at 0 2 7 1) (at 0 1 7 1) noRest ∷ mapped (at 1 2 7 2) ∷ []) (at 0 1 7 1 ∷ at 1 2 7 2 ∷ [])
+    ∷ granted (at 2 5 7 0 ∷ []) (ask 0 3 4 7 1) (remapped 1 (at 2 5 7 0) (at 2 3 7 0) (at 4 5 7 2) ∷ mapped (at 3 4 7 1) ∷ [])
+    (at 2 3 7 0 ∷ at 3 4 7 1 ∷ at 4 5 7 2 ∷ [])
+    ∷ granted (at 1 2 7 0 ∷ []) (ask 0 1 2 7 2) (unmapped 0 (at 1 2 7 0) ∷ mapped (at 1 2 7 2) ∷ []) (at 1 2 7 2 ∷ [])
+    ∷ granted (at 0 1 7 1 ∷ at 1 2 9 4 ∷ at 2 3 7 3 ∷ []) (ask 0 0 3 7 1)
+    (unmapped 1 (at 0 1 7 1) ∷ unmapped 0 (at 1 2 9 4) ∷ unmapped 1 (at 2 3 7 3) ∷ mapped (at 0 3 7 1) ∷ []) (at 0 3 7 1 ∷ [])
     ∷ []
 
 abbrev pub Drawings : Type 0

@@ -1,6 +1,6 @@
 -- Document 01's rules in words; its numbers are written out, but for the 512 mappings. A call gives a line's answer
 -- exactly if its rule is broken and no line's above it.
-use Rattle.model.specs.Prelude.{_≡_, _⊎_, _↔_, List, [], _∷_, flatMap, List·Memᴰ, ℕ, suc, _+_, _*_, _/_, _%_, _^_, _≤_, _<_, length, take, Space, Mapping, Request, Shown, Grant}
+use Rattle.model.specs.Prelude.{_≡_, _⊎_, _↔_, List, [], _∷_, flatMap, List·Memᴰ, ℕ, suc, _+_, _*_, _/_, _%_, _^_, _≤_, _<_, pos, _-ℤ_, length, take, Space, Mapping, Request, Shown, Grant}
 use Rattle.model.specs.Calls.{Reply, refused, answered, mostMappings, end, stop, requestOf, recordOf, Table, mappings, badPlace, operations, old, rests, translate, Asking, numbers, bytes, asked, grantOf, bind, lookup, checkRequest, verdictReply, decodedReply, answerReply, foundReply}
 
 infix 40 _∈_ _⊆_
@@ -50,6 +50,10 @@ Ascends ms = Ordered (λ m n. end m ≤ n .address) ms
 
 abbrev pub TableRules : Space → List Mapping → Type 0
 TableRules s ms = Each (MappingRules s) ms × Ascends ms
+
+-- document 02: the objects agree, and the displacements, the offset less the address, which may be below zero
+abbrev pub Agree : Mapping → Mapping → Type 0
+Agree m n = (m .object ≡ n .object) × (pos (m .offset) -ℤ pos (m .address) ≡ pos (n .offset) -ℤ pos (n .address))
 
 -- a refusal table: lines from the top, each with its answer and its rule, and the answer where every rule is kept
 pub data RefusalTable (A : Type 0) : Type 1 where

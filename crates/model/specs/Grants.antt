@@ -1,8 +1,8 @@
 -- What a grant does: demand 2 in terms of the public calls, and the operations as a driver takes them.
 use Rattle.model.specs.Prelude.{_≡_, _⊎_, _↔_, Bool, Option, none, some, Option·map, Option·bind, List, [], _∷_, _++_, flatMap, ℕ, _+_, _-_, _*_, _≤_, _<_, leb, ltb, eqb, length, getD, drop, replicate, Space, Mapping, Request, Rests, Lower, Upper, Both, Operation, Map, Remap, Unmap, Nothing, Object, Grant}
-use Rattle.model.specs.Calls.{all, choose, answered, end, stop, Table, mappings, operations, restsOf, old, rests, operationWords, translate, Asking, asked, bind, tableAfter, lookup}
+use Rattle.model.specs.Calls.{all, choose, answered, end, stop, Table, mappings, mappingOf, operations, restsOf, old, rests, operationWords, translate, Asking, asked, bind, tableAfter, lookup}
 use Rattle.model.specs.Layout.{operationIn, listedOperation}
-use Rattle.model.specs.Exactly.{Each, _∈_, ShareByte, Ascends, TableRules, Pins}
+use Rattle.model.specs.Exactly.{Each, _∈_, ShareByte, Ascends, TableRules, Agree, Pins}
 
 -- u is what the granted request r leaves of t: what byte addresses show; a valid table, zeros behind it; look-ups in it
 -- are answered
@@ -88,10 +88,10 @@ abbrev pub Replay : Type 0
 Replay = (s : Space) (t : Table) (os : List ℕ) (q : Asking) (g : Grant) → bind s t os q .answer ≡ answered g
     → Replays (asked q) t (tableAfter t (bind s t os q)) (operations (asked q) (mappings t)) os (bind s t os q .operations) g
 
--- an operation's keep word is 1 exactly if the request is a map and the old mapping has the request's address, object
--- and offset; else 0
+-- document 02: an operation's keep word is 1 exactly if the request is a map, and the old mapping agrees with the one
+-- asked for in object and displacement; else 0
 abbrev pub Marked : Request → Operation → ℕ → Type 0
-Marked r o word = (word ≤ 1) × ((word ≡ 1) ↔ ((m : Mapping) × m ∈ old o × (r .op ≡ 0) × (m .address ≡ r .address) × (m .object ≡ r .object) × (m .offset ≡ r .offset)))
+Marked r o word = (word ≤ 1) × ((word ≡ 1) ↔ ((m : Mapping) × m ∈ old o × (r .op ≡ 0) × Agree m (mappingOf r)))
 
 abbrev pub Keep : Type 0
 Keep = (r : Request) (ms : List Mapping) → Each (λ o. Marked r o (getD (operationWords o) 1 0)) (operations r ms)

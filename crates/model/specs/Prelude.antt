@@ -1,5 +1,5 @@
--- The words that every definition uses: the library's (leb, ltb, eqb test ≤, <, =; getD xs i d is the i-th of xs, or d)
--- and types of src/lib.rt.
+-- The words that every definition uses: the library's (leb, ltb, eqb test ≤, <, =; getD xs i d is the i-th of xs, or d;
+-- of the whole numbers ℤ, pos n is n, negsuc n is -(n + 1), subℕ a b is a - b) and types of src/lib.rt.
 pub use mathlib.Core.Path.{_≡_}
 pub use mathlib.Core.Logic.{_⊎_, _↔_}
 pub use mathlib.Core.Bool.{Bool, true, false, _&&_}
@@ -7,6 +7,7 @@ pub use mathlib.Core.Option.{Option, none, some, Option·map, bind as Option·bi
 pub use mathlib.Core.List.{List, [], _∷_, _++_, map, flatMap, List·Memᴰ}
 pub use Prim.Native.Nat.{ℕ, zero, suc, _+_, _-_, _*_, _/_, _%_, _^_, _≤_, _<_, min, max}
 pub use lib.Dec.{leb, ltb, eqb}
+pub use lib.IntN.{ℤ, pos, negsuc, subℕ, _-ℤ_}
 pub use lib.ListN.{length, getD, take, drop, replicate}
 pub use Rattle.model.specs.declared.Space.{Space}
 pub use Rattle.model.specs.declared.Mapping.{Mapping}

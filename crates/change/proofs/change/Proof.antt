@@ -81,7 +81,7 @@ write-operations-requires c κs =
     let low = high .before .before .before in
     let start = low .before .before .before .before in
     let p = placed (start .pre) (low .first-ending-behind .ensures) (high .before .last-byte .ensures) (high .first-starting-behind .ensures) in
-    record { count = start .args .count; table = start .pre .table; low = low-high p .0; high = low-high p .1; not-empty = start .pre .not-empty; stop-most = start .pre .stop-most; room = room-places p (start .args .operations .now) (new .replacement .ensures) (counted .replacement-length .ensures .0) (start .pre) (omega (arith, c .before .before .if1 .left)) }
+    record { count = start .args .count; table = start .pre .table; low = low-high p .0; high = low-high p .1; not-empty = start .pre .not-empty; stop-most = start .pre .stop-most; offset-most = start .pre .offset-most; room = room-places p (start .args .operations .now) (new .replacement .ensures) (counted .replacement-length .ensures .0) (start .pre) (omega (arith, c .before .before .if1 .left)) }
 
 splice-requires : tie.Need-splice-requires
 splice-requires c κs =

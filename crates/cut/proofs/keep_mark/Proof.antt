@@ -1,11 +1,20 @@
 -- `cut::keep_mark` meets its contract.
 -- Assumes nothing.
-use mathlib.Core.Path.{refl}
+use Rattle.cut.proofs.Signed.{asked-bounded, keep-by}
+use borrow.Author.Needs.{needs}
 use Rattle.cut.proofs.keep_mark.Statement.{statement}
 use Rattle.cut.proofs.keep_mark.Tie as tie
 
+new-mapping-requires : tie.Need-new-mapping-requires
+new-mapping-requires c κs = search needs
+
+agree-requires : tie.Need-agree-requires
+agree-requires c κs = let start = c .before in asked-bounded (start .args .r) (start .args .m) (c .new-mapping .ensures) (start .pre)
+
 returns : tie.Need-returns
-returns c = refl
+returns c =
+    let asked = c .before .before in
+    keep-by (asked .before .args .r) (asked .before .args .m) (asked .new-mapping .ensures) (c .before .agree .ensures)
 
 pub keep-mark-spec : {M : Type 1} → statement M
-keep-mark-spec = tie.close (tie.spec returns)
+keep-mark-spec = tie.close (tie.spec new-mapping-requires agree-requires returns)

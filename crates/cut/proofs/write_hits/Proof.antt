@@ -26,7 +26,7 @@ operation-of-requires : tie.Need-operation-of-requires Inv-loop μ-loop
 operation-of-requires c κs =
     let pre = c .before .before .before .before .before .pre in
     let m = valid-at (pre .table) (c .before .before .loop .i) (omega (arith, pre .high)) (c .read-mapping .ensures) in
-    record { not-empty = pre .not-empty; stop-most = pre .stop-most; end-most = m .0; offset-most = m .1 }
+    (record { not-empty = pre .not-empty; stop-most = pre .stop-most; end-most = m .0; offset-most = m .1 }, pre .offset-most)
 
 sub-write-operation : tie.Need-sub-write-operation Inv-loop μ-loop
 sub-write-operation c = search needs
