@@ -61,3 +61,10 @@ module _ (m n : Mapping) where
     λ h. (eqb→eq _ _ (h .0), less (m .offset) (m .address) ∙ eqZ-says (displacement m) (displacement n) .0 (h .1 .0) ∙ sym (less (n .offset) (n .address))),
     λ a. (eq→eqb _ _ (a .0), (eqZ-says (displacement m) (displacement n) .1 (sym (less (m .offset) (m .address)) ∙ a .1 ∙ less (n .offset) (n .address)), tt)),
   )
+
+  -- agreement without numbers below zero
+  pub agree-crosswise : Agree m n ↔ ((m .object ≡ n .object) × (m .offset + n .address ≡ n .offset + m .address))
+  agree-crosswise = (
+    λ a. (a .0, displacement-crosswise .0 (sym (less (m .offset) (m .address)) ∙ a .1 ∙ less (n .offset) (n .address))),
+    λ h. (h .0, less (m .offset) (m .address) ∙ displacement-crosswise .1 (h .1) ∙ sym (less (n .offset) (n .address))),
+  )

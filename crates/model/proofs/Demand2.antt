@@ -25,7 +25,7 @@ use Rattle.model.proofs.Granted.{Good, Granting, granting, table-chain,
 use Rattle.model.proofs.Translate.{translate-under, translate-over, translate-map, translate-unmap}
 
 -- a look-up on a table that passes 1 to 5 is answered
-lookup-good : (s : Space) (n : ℕ) (t : Table) (x : ℕ) → Good s n t → lookup s t x ≡ answered (translate (mappings t) x)
+pub lookup-good : (s : Space) (n : ℕ) (t : Table) (x : ℕ) → Good s n t → lookup s t x ≡ answered (translate (mappings t) x)
 unfolding lookup
 lookup-good s n t x g = passes (tableRows s [] t) (translate (mappings t) x) (passed-table (none-between g))
 

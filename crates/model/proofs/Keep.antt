@@ -1,25 +1,25 @@
 -- The keep mark of each operation.
 -- Assumes nothing.
-use mathlib.Core.Path.{_≡_, refl, sym, subst, _∙_}
+use mathlib.Core.Path.{_≡_, refl, sym, ap, subst, _∙_}
 use mathlib.Core.Logic.{_↔_}
 use mathlib.Core.Bool.{Bool, true, false}
-use mathlib.Core.List.{List, [], _∷_, map, List·Memᴰ·head, List·Memᴰ·tail, List·Memᴰ·not-nil}
-use Prim.Native.Nat.{ℕ, zero, suc}
+use mathlib.Core.List.{[], _∷_, List·Memᴰ·head, List·Memᴰ·tail, List·Memᴰ·not-nil}
+use Prim.Native.Nat.{ℕ, zero, suc, _≤_}
 use native.Mathlib.Omega.{arith}
 use lib.Dec.{T, eqb→eq}
 use lib.ListN.{getD}
-use Rattle.model.specs.Prelude.{Mapping, Request, Lower, Upper, Both, Operation, Map, Remap, Unmap}
+use Rattle.model.specs.Prelude.{Mapping, Request, Operation}
 use Rattle.model.specs.Rows.{choose}
 use Rattle.model.specs.Rules.{stop}
-use Rattle.model.specs.Cut.{lowerPart, upperPart, mappingOf, new, hits, keepTests, keepMark, operationFor, operationOf, operations, old}
+use Rattle.model.specs.Cut.{lowerPart, upperPart, mappingOf, keepTests, keepMark, operationFor, operationOf}
 use Rattle.model.specs.Layout.{operationWords}
-use Rattle.model.specs.Exactly.{Each, _∈_, Agree}
+use Rattle.model.specs.Exactly.{_∈_, Agree}
 use Rattle.model.specs.Grants.{Marked, Keep}
 use Rattle.model.proofs.Tests.{eq→eqb, all-facts, all-true}
 use Rattle.model.proofs.Agreement.{agree-says}
-use Rattle.model.proofs.Actions.{each-append}
+use Rattle.model.proofs.Operations.{old-one, each-operation}
 
-abbrev Kept : Request → Mapping → Type 0
+abbrev pub Kept : Request → Mapping → Type 0
 Kept r m = (r .op ≡ 0) × Agree m (mappingOf r)
 
 mark-kept : (r : Request) (m : Mapping) → (keepMark r m ≡ true) ↔ Kept r m
@@ -28,43 +28,47 @@ mark-kept r m = (
   λ h. all-true (keepTests r m) (eq→eqb _ _ (h .0), agree-says m (mappingOf r) .1 (h .1)),
 )
 
--- an operation with the old mapping m alone, and a word that tells the mark
-marked-by : (r : Request) (m : Mapping) (keep : Bool) (o : Operation) (word : ℕ) → keep ≡ keepMark r m → old o ≡ m ∷ [] → word ≡ choose keep 1 0
-    → Marked r o word
-marked-by r m true o word k e w =
-    let a = mark-kept r m .0 (sym k) in
-    (omega arith, (λ _. (m, rw e (List·Memᴰ·head refl), a .0, a .1), λ _. w))
-marked-by r m false o word k e w =
-    (omega arith, (λ i. absurd (omega arith), λ h. absurd (clash (mark-kept r m .1 (here (h .0) (rw e at (h .1)) (h .2, h .3))))))
+-- the keep word of an operation
+abbrev pub keepWord : Operation → ℕ
+keepWord o = getD (operationWords o) 1 0
+
+word-is : (r : Request) (m : Mapping) → keepWord (operationOf r m) ≡ choose (keepMark r m) 1 0
+word-is r m = go (lowerPart (r .address) m .size) (upperPart (stop r) m .size)
   where
+    go : (i j : ℕ) → keepWord (operationFor i j (keepMark r m) m (lowerPart (r .address) m) (upperPart (stop r) m)) ≡ choose (keepMark r m) 1 0
+    go zero zero = refl
+    go (suc i) zero = refl
+    go zero (suc j) = refl
+    go (suc i) (suc j) = refl
+
+-- the word of a mapping that is hit
+pub word-kept : (r : Request) (m : Mapping) → (keepWord (operationOf r m) ≡ 1) ↔ Kept r m
+word-kept r m = go (keepMark r m) refl
+  where
+    go : (b : Bool) → keepMark r m ≡ b → (keepWord (operationOf r m) ≡ 1) ↔ Kept r m
+    go true e = (λ _. mark-kept r m .0 e, λ _. word-is r m ∙ ap (λ (b : Bool). choose b 1 0) e)
+    go false e = (
+      λ w. absurd (omega (arith, w, word-is r m ∙ ap (λ (b : Bool). choose b 1 0) e)),
+      λ k. absurd (subst T (sym (mark-kept r m .1 k) ∙ e) tt),
+    )
+
+marked-operation : (r : Request) (m : Mapping) → Marked r (operationOf r m) (keepWord (operationOf r m))
+marked-operation r m = (
+  omega (arith, word-is r m, mark-most (keepMark r m)),
+  (
+    λ e. let k = word-kept r m .0 e in (m, rw (old-one r m) (List·Memᴰ·head refl), k .0, k .1),
+    λ h. word-kept r m .1 (here (h .0) (rw (old-one r m) at (h .1)) (h .2, h .3)),
+  ),
+)
+  where
+    mark-most : (b : Bool) → choose b 1 0 ≤ 1
+    mark-most true = omega arith
+    mark-most false = omega arith
+
     here : (n : Mapping) → n ∈ (m ∷ []) → Kept r n → Kept r m
-    here n (List·Memᴰ·head p) a = subst (Kept r) p a
-    here n (List·Memᴰ·tail i) a = absurd (List·Memᴰ·not-nil i)
-
-    clash : keepMark r m ≡ true → ⊥
-    clash e = subst T (sym (k ∙ e)) tt
-
-marked-operation : (r : Request) (m : Mapping) → Marked r (operationOf r m) (getD (operationWords (operationOf r m)) 1 0)
-marked-operation r m = go (lowerPart (r .address) m .size) (upperPart (stop r) m .size) (keepMark r m) refl (lowerPart (r .address) m) (upperPart (stop r) m)
-  where
-    go : (i j : ℕ) (keep : Bool) → keep ≡ keepMark r m → (l u : Mapping)
-        → Marked r (operationFor i j keep m l u) (getD (operationWords (operationFor i j keep m l u)) 1 0)
-    go zero zero keep k l u = marked-by r m keep (Unmap keep m) _ k refl refl
-    go (suc i) zero keep k l u = marked-by r m keep (Remap keep m (Lower l)) _ k refl refl
-    go zero (suc j) keep k l u = marked-by r m keep (Remap keep m (Upper u)) _ k refl refl
-    go (suc i) (suc j) keep k l u = marked-by r m keep (Remap keep m (Both l u)) _ k refl refl
+    here n (List·Memᴰ·head p) k = subst (Kept r) p k
+    here n (List·Memᴰ·tail i) k = absurd (List·Memᴰ·not-nil i)
 
 pub keep-claim : Keep
-unfolding operations
-keep-claim r ms = each-append Right (map (operationOf r) (hits r ms)) (map Map (new r)) (olds-right (hits r ms)) (news-right (new r))
-  where
-    Right : Operation → Type 0
-    Right o = Marked r o (getD (operationWords o) 1 0)
-
-    olds-right : (hs : List Mapping) → Each Right (map (operationOf r) hs)
-    olds-right [] = tt
-    olds-right (m ∷ hs) = (marked-operation r m, olds-right hs)
-
-    news-right : (ns : List Mapping) → Each Right (map Map ns)
-    news-right [] = tt
-    news-right (n ∷ ns) = ((omega arith, (λ e. absurd (omega (arith, e)), λ h. absurd (List·Memᴰ·not-nil (h .1)))), news-right ns)
+keep-claim r ms = each-operation (λ o. Marked r o (keepWord o)) r ms (λ m i. marked-operation r m)
+    (λ n. (omega arith, (λ e. absurd (omega (arith, e)), λ h. absurd (List·Memᴰ·not-nil (h .1)))))

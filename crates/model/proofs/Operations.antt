@@ -3,7 +3,7 @@
 use mathlib.Core.Path.{_≡_, refl, sym, ap, _∙_}
 use mathlib.Core.Logic.{_↔_}
 use mathlib.Core.Bool.{Bool}
-use mathlib.Core.List.{List, [], _∷_, _++_, map, flatMap, append-assoc, append-nil}
+use mathlib.Core.List.{List, [], _∷_, _++_, map, flatMap, append-assoc, append-nil, List·Memᴰ·head, List·Memᴰ·tail}
 use Prim.Native.Nat.{ℕ, zero, suc, _+_, _*_, _≤_}
 use native.Mathlib.Omega.{arith}
 use lib.ListN.{length, length-append, length-map}
@@ -11,7 +11,8 @@ use Rattle.model.specs.Prelude.{Mapping, Request, Operation, Map}
 use Rattle.model.specs.Rules.{end, stop}
 use Rattle.model.specs.Cut.{lowerPart, upperPart, new, hits, operationFor, operationOf, operations, old}
 use Rattle.model.specs.Layout.{operationWords}
-use Rattle.model.specs.Exactly.{_∈_, ShareByte, Ascends}
+use Rattle.model.specs.Exactly.{Each, _∈_, ShareByte, Ascends}
+use Rattle.model.proofs.Actions.{each-append}
 use Rattle.model.proofs.OperationWords.{operation-length}
 use Rattle.model.proofs.New.{new-most}
 use Rattle.model.proofs.Hits.{hits-hit, hit-hits, hits-ordered, hits-most}
@@ -31,7 +32,7 @@ flatMap-operations f e r ms = simp (flatMap-append, nothing (new r), append-nil)
     nothing [] = refl
     nothing (n ∷ ns) = rw (e n) (nothing ns)
 
-old-one : (r : Request) (m : Mapping) → old (operationOf r m) ≡ m ∷ []
+pub old-one : (r : Request) (m : Mapping) → old (operationOf r m) ≡ m ∷ []
 old-one r m = go (l .size) (u .size) _
   where
     l : Mapping
@@ -53,6 +54,20 @@ olds r ms = flatMap-operations old (λ m. refl) r ms ∙ go (hits r ms)
     go : (hs : List Mapping) → flatMap old (map (operationOf r) hs) ≡ hs
     go [] = refl
     go (m ∷ hs) = rw (old-one r m) (ap (_∷_ m) (go hs))
+
+-- what holds of each operation
+pub each-operation : (P : Operation → Type 0) (r : Request) (ms : List Mapping) → ((m : Mapping) → m ∈ hits r ms → P (operationOf r m)) → ((n : Mapping) → P (Map n))
+    → Each P (operations r ms)
+unfolding operations
+each-operation P r ms f g = each-append P (map (operationOf r) (hits r ms)) (map Map (new r)) (of-hits (hits r ms) f) (of-new (new r))
+  where
+    of-hits : (hs : List Mapping) → ((m : Mapping) → m ∈ hs → P (operationOf r m)) → Each P (map (operationOf r) hs)
+    of-hits [] f = tt
+    of-hits (m ∷ hs) f = (f m (List·Memᴰ·head refl), of-hits hs (λ n i. f n (List·Memᴰ·tail i)))
+
+    of-new : (ns : List Mapping) → Each P (map Map ns)
+    of-new [] = tt
+    of-new (n ∷ ns) = (g n, of-new ns)
 
 pub operations-words : (os : List Operation) → length (flatMap operationWords os) ≡ 14 * length os
 unfolding flatMap
