@@ -12,7 +12,7 @@ use borrow.Author.Tests.{ltb-true, ltb-false, le-ltb}
 use Rattle.model.specs.Prelude.{Mapping}
 use Rattle.model.specs.Cut.{displacement, eqZ, agreeTests}
 use Rattle.model.specs.Exactly.{Agree}
-use Rattle.model.proofs.Tests.{tests, Says, eq→eqb}
+use Rattle.model.proofs.Tests.{Says, eq→eqb}
 
 -- the test of whole numbers
 pub eqZ-says : (x y : ℤ) → T (eqZ x y) ↔ (x ≡ y)

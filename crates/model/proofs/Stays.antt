@@ -2,11 +2,11 @@
 -- Assumes nothing.
 use mathlib.Core.Path.{_≡_, sym, ap, ap₂, subst, _∙_}
 use mathlib.Core.Logic.{_⊎_, inl, inr, _↔_}
-use mathlib.Core.List.{List, [], _∷_, List·Memᴰ·head, List·Memᴰ·tail, List·Memᴰ·not-nil}
+use mathlib.Core.List.{[], _∷_, List·Memᴰ·head, List·Memᴰ·tail, List·Memᴰ·not-nil}
 use Prim.Native.Nat.{ℕ, _+_, _-_, _≤_, _<_}
 use native.Mathlib.Omega.{arith}
 use lib.ListN.{length}
-use Rattle.model.specs.Prelude.{Space, Mapping, Request, Operation, Shown, Nothing, Object, Grant}
+use Rattle.model.specs.Prelude.{Space, Mapping, Request, Shown, Nothing, Object}
 use Rattle.model.specs.Rows.{Reply, answered}
 use Rattle.model.specs.Rules.{end, stop}
 use Rattle.model.specs.Table.{Table, mappings}
