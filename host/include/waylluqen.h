@@ -39,7 +39,8 @@ extern "C" {
  * %WAYLLUQEN_INTERFACE is a symbol that the archive exports, and its name carries the interface's
  * number. Every file that includes this header needs that very symbol: where the archive is of
  * another interface, older or newer, the program does not link, and the linker names the symbol.
- * The number goes up whenever a layout, a parameter list or a number that is written here changes.
+ * The number goes up whenever a layout, a parameter list, a number or a word's meaning that is
+ * written here changes.
  *
  * A file that only wants layouts and numbers, in a program that links no archive, defines
  * WAYLLUQEN_LAYOUTS_ONLY before it includes this header. There are no calls then.
@@ -48,7 +49,7 @@ extern "C" {
 #define WAYLLUQEN_VERSION_MAJOR 0
 #define WAYLLUQEN_VERSION_MINOR 1
 #define WAYLLUQEN_VERSION_PATCH 0
-#define WAYLLUQEN_INTERFACE waylluqen_interface_1
+#define WAYLLUQEN_INTERFACE waylluqen_interface_2
 
 /**
  * DOC: What the caller ensures
@@ -217,9 +218,10 @@ enum waylluqen_kind {
 /**
  * enum waylluqen_operation_word - the words of an operation
  * @WAYLLUQEN_OPERATION_KIND: one of &enum waylluqen_kind
- * @WAYLLUQEN_OPERATION_KEEP: 1 if the request is a map and the old mapping has its address,
- *     object and offset, so that a driver may keep page entries that both have; else, and for a
- *     map operation, 0
+ * @WAYLLUQEN_OPERATION_KEEP: 1 if the request is a map and the old mapping has its object and its
+ *     displacement (the offset less the address, which may be below zero), so that the old
+ *     mapping's pages inside the range show already what the new mapping shows there, and a driver
+ *     can leave their entries alone; else, and for a map operation, 0
  * @WAYLLUQEN_OPERATION_MAPPING: where the old mapping starts; for a map operation the new one
  * @WAYLLUQEN_OPERATION_LOWER: where the lower rest starts: what a remap leaves below the range
  * @WAYLLUQEN_OPERATION_UPPER: where the upper rest starts: what a remap leaves above the range
@@ -228,6 +230,9 @@ enum waylluqen_kind {
  * A rest is a mapping. The lower one has the old address and offset; the upper one starts at the
  * range's end, and its offset is as much higher as its address is. An absent rest is four zeros,
  * so that its size is 0; a map and an unmap have none.
+ *
+ * The pages of an old mapping inside the range are those between its rests. Any number of a list's
+ * operations can have keep 1, also with others between them.
  */
 enum waylluqen_operation_word {
     WAYLLUQEN_OPERATION_KIND = 0,

@@ -53,16 +53,21 @@ pub enum Rests {
 
 /// What a driver has to do.
 ///
-/// `keep` is true if the request is a map and the old mapping has its address, object and offset,
-/// so that a driver may keep page entries that both have.
+/// `keep` is true if the request is a map and the old mapping has its object and its displacement:
+/// the offset less the address, which may be below zero. Then the old mapping's pages inside the
+/// range, which are those between its rests, show already what the new mapping shows there, and a
+/// driver can leave their entries alone. Any number of a list's operations can have it, also with
+/// others between them.
 ///
 /// ```
 /// use waylluqen::{Mapping, Operation, Rests};
 ///
-/// /// How many pages a driver has to clear first, or to write.
-/// fn pages(operation: Operation) -> u64 {
+/// /// How many page entries a driver has to clear before the map.
+/// fn to_clear(operation: Operation) -> u64 {
 ///     let bytes = match operation {
-///         Operation::Map(new) => new.size,
+///         Operation::Map(_)
+///         | Operation::Remap { keep: true, .. }
+///         | Operation::Unmap { keep: true, .. } => 0,
 ///         Operation::Remap { old, rests: Rests::Lower(rest) | Rests::Upper(rest), .. } => {
 ///             old.size - rest.size
 ///         }
@@ -76,7 +81,8 @@ pub enum Rests {
 ///
 /// let old = Mapping { address: 0, size: 0x3000, object: 7, offset: 0 };
 /// let rests = Rests::Lower(Mapping { size: 0x1000, ..old });
-/// assert_eq!(pages(Operation::Remap { old, rests, keep: false }), 2);
+/// assert_eq!(to_clear(Operation::Remap { old, rests, keep: false }), 2);
+/// assert_eq!(to_clear(Operation::Remap { old, rests, keep: true }), 0);
 /// ```
 #[derive(Clone, Copy, Debug, PartialEq, Eq, Hash)]
 pub enum Operation {
@@ -88,14 +94,14 @@ pub enum Operation {
         old: Mapping,
         /// What it leaves.
         rests: Rests,
-        /// Whether it starts as the new mapping does.
+        /// Whether its pages inside the range show what the new mapping shows there.
         keep: bool,
     },
     /// Unmap the old mapping.
     Unmap {
         /// The mapping that goes.
         old: Mapping,
-        /// Whether it starts as the new mapping does.
+        /// Whether its pages inside the range show what the new mapping shows there.
         keep: bool,
     },
 }
