@@ -51,10 +51,10 @@ fn operation(
 /// The operation of a mapping that is hit.
 pub fn cut(request: &Request, end: u64, old: &Mapping) -> Operation {
     let &[address, _, object, offset] = old;
+    // Offset less address is the same, asked by sums, which are at most 2^49.
     let keep = request.op == Request::MAP
-        && address == request.address
         && object == request.object
-        && offset == request.offset;
+        && offset + request.address == request.offset + address;
     let (lower, upper) = (lower_rest(request, old), upper_rest(end, old));
     let whole = lower.is_none() && upper.is_none();
     let kind = if whole { UNMAP } else { REMAP };

@@ -5,6 +5,7 @@
 
 pub mod calls;
 pub mod library;
+pub mod marks;
 pub mod memory;
 pub mod near;
 pub mod numbers;

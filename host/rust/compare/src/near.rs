@@ -49,7 +49,8 @@ fn near_range(random: &mut Random, good: &Good, first: usize) -> (u64, u64) {
     (from, to - from)
 }
 
-/// What to map there: as the old mapping starts, as it goes on, the like but for one, or any.
+/// What to map there: as the old mapping starts, as it goes on, the like but for one, or any. And
+/// what is not to be taken for going on: the displacement with the other sign, the same sum.
 fn near_object(random: &mut Random, old: &Mapping, (addr, range): (u64, u64)) -> (u32, u64) {
     let highest = LIMIT - range;
     let any = (
@@ -58,11 +59,16 @@ fn near_object(random: &mut Random, old: &Mapping, (addr, range): (u64, u64)) ->
     );
     let object = old.object as u32;
     let goes_on = old.offset.wrapping_add(addr.wrapping_sub(old.address));
-    let (handle, offset) = match random.below(8) {
+    let other_sign = addr.wrapping_add(old.address.wrapping_sub(old.offset));
+    let same_sum = old.offset.wrapping_add(old.address.wrapping_sub(addr));
+    let (handle, offset) = match random.below(12) {
         0..=1 => (object, old.offset),
-        2 => (object, goes_on),
-        3 => (any.0, old.offset),
-        4 => (object, any.1),
+        2..=4 => (object, goes_on),
+        5 => (any.0, goes_on),
+        6 => (any.0, old.offset),
+        7 => (object, any.1),
+        8 => (object, other_sign),
+        9 => (object, same_sum),
         _ => any,
     };
     (handle, offset.min(highest))
@@ -105,10 +111,13 @@ pub fn narrow_record(random: &mut Random, good: &Good) -> Record {
         _ if old.size >= 3 * PAGE => (old.address + PAGE, PAGE),
         _ => (old.address, 2 * PAGE),
     };
-    let same = record_of(&old);
-    let map = Record::plain(MAP, same.handle, addr, same.bo_offset, range);
+    let Record {
+        handle, bo_offset, ..
+    } = record_of(&old);
+    let same = Record::plain(MAP, handle, addr, bo_offset, range);
+    let going_on = Record::plain(MAP, handle, addr, bo_offset + (addr - old.address), range);
     let unmap = Record::plain(UNMAP, 0, addr, 0, range);
-    random.pick(&[map, map, unmap])
+    random.pick(&[same, going_on, unmap])
 }
 
 /// Numbers that no record holds: op and object have 64 bits.

@@ -5,6 +5,9 @@ use crate::tables::Table;
 use waylluqen_model::table::mapping_at;
 use waylluqen_model::{replay, Grant, Mapping, Page, Pages, Request, OPERATION_WORDS, PAGE};
 
+/// What a page's first byte shows: an object and the byte of it.
+type Shown = Option<[u64; 2]>;
+
 /// The mappings in the words of a table.
 fn mappings_of(table: &Table) -> Vec<Mapping> {
     let places = 0..table.count as usize;
@@ -14,7 +17,7 @@ fn mappings_of(table: &Table) -> Vec<Mapping> {
 }
 
 /// What each page shows, by look-ups of its first and last byte.
-fn shown_by_lookup(table: &Table) -> Vec<Option<[u64; 2]>> {
+fn shown_by_lookup(table: &Table) -> Vec<Shown> {
     let space = &table.space;
     let mut words = table.words.clone();
     let lent = waylluqen::Table::with_count(&mut words, table.count);
@@ -34,24 +37,59 @@ fn shown_by_lookup(table: &Table) -> Vec<Option<[u64; 2]>> {
     (0..space.size / PAGE).map(page).collect()
 }
 
+/// Asserts for each page of an old mapping inside the range that it shows what it showed before
+/// exactly if the mapping has the keep mark. After an unmap none does.
+fn assert_mark(
+    operation: &waylluqen::Operation,
+    request: &Request,
+    start: u64,
+    pages: &[[Shown; 2]],
+) {
+    use waylluqen::Operation::{Map, Remap, Unmap};
+    let (old, keep) = match *operation {
+        Remap { old, keep, .. } | Unmap { old, keep } => (old, keep),
+        Map(_) => return,
+    };
+    let first = old.address.max(request.address);
+    let end = (old.address + old.size).min(request.address + request.size);
+    assert!(first < end, "{operation:x?} is not hit by {request:x?}");
+    for address in (first..end).step_by(PAGE as usize) {
+        let [before, after] = pages[((address - start) / PAGE) as usize];
+        assert_eq!(
+            keep,
+            before == after,
+            "{operation:x?}, {request:x?}, {address:#x}"
+        );
+    }
+}
+
 /// Asserts that a grant did page by page what was asked: a page of a map's range shows the
 /// request's object, of an unmap's nothing, and any other shows what it showed before. And the
-/// operations at the front of `list` lead from the old mappings to the new ones.
+/// operations at the front of `list` lead from the old mappings to the new ones, with the keep mark
+/// where pages of the range show what they showed.
 pub fn assert_pages(old: &Table, new: &Table, request: &Request, grant: &Grant, list: &[u64]) {
     let (before, after) = (mappings_of(old), mappings_of(new));
     let written = &list[..grant.operations.len() * OPERATION_WORDS];
     assert_eq!(replay(&before, written).as_ref(), Some(&after));
     let (read, _) = written.as_chunks();
-    let read = read.iter().map(waylluqen::Operation::read);
+    let read: Option<Vec<_>> = read.iter().map(waylluqen::Operation::read).collect();
+    let read = read.expect("these are operations");
     let expected = grant.operations.iter().map(library::operation);
-    assert!(read.eq(expected.map(Some)));
+    assert!(read.iter().copied().eq(expected));
 
     let mut pages = Pages::new(&old.space, &before);
     let shown = |page: &Option<Page>| page.map(|page| [page.object, page.offset]);
     let unasked: Vec<_> = pages.pages.iter().map(shown).collect();
-    assert_eq!(shown_by_lookup(old), unasked);
+    let seen_before = shown_by_lookup(old);
+    assert_eq!(seen_before, unasked);
     pages.ask(request);
     assert_eq!(pages.mappings(), after);
     let asked: Vec<_> = pages.pages.iter().map(shown).collect();
-    assert_eq!(shown_by_lookup(new), asked);
+    let seen_after = shown_by_lookup(new);
+    assert_eq!(seen_after, asked);
+    let both = seen_before.into_iter().zip(seen_after);
+    let both: Vec<[Shown; 2]> = both.map(<[Shown; 2]>::from).collect();
+    for operation in &read {
+        assert_mark(operation, request, old.space.start, &both);
+    }
 }

@@ -6,12 +6,13 @@ use waylluqen_model::random::Random;
 use waylluqen_model::script;
 
 /// The lines that granted requests and answered look-ups make.
-pub const LINES: [&str; 12] = [
+pub const LINES: [&str; 13] = [
     "space",
     "granted",
     "map",
     "remap keep 0",
     "remap keep 1",
+    "remap keep 1 and lower",
     "lower",
     "upper",
     "lower and upper",
@@ -85,8 +86,10 @@ impl Tally {
         for line in printed.lines() {
             let kind = kind(line);
             self.count(kind);
-            if (last, kind) == ("lower", "upper") {
-                self.count("lower and upper");
+            match (last, kind) {
+                ("lower", "upper") => self.count("lower and upper"),
+                ("remap keep 1", "lower") => self.count("remap keep 1 and lower"),
+                _ => {}
             }
             last = kind;
         }

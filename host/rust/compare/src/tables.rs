@@ -46,16 +46,39 @@ pub fn free_parts(space: &Space) -> [(u64, u64); 2] {
 }
 
 fn good_mapping(random: &mut Random, address: u64, size: u64) -> Mapping {
+    let any = random.up_to((LIMIT - size) / PAGE) * PAGE;
     Mapping {
         address,
         size,
         object: 1 + random.up_to(HIGHEST_OBJECT - 1),
-        offset: random.up_to((LIMIT - size) / PAGE) * PAGE,
+        // Displacements of zero would be rare.
+        offset: if random.once_in(8) { address } else { any },
     }
 }
 
+/// One that goes on as an earlier one, lower in the space, as far as its object goes.
+fn going_on(earlier: &Mapping, address: u64, size: u64) -> Option<Mapping> {
+    let offset = earlier.offset + (address - earlier.address);
+    (offset + size <= LIMIT).then_some(Mapping {
+        address,
+        size,
+        object: earlier.object,
+        offset,
+    })
+}
+
+/// Any mapping there, or one that goes on as one of the earlier ones.
+fn next_mapping(random: &mut Random, earlier: &[Mapping], address: u64, size: u64) -> Mapping {
+    let any = good_mapping(random, address, size);
+    if earlier.is_empty() || !random.once_in(4) {
+        return any;
+    }
+    going_on(&random.pick(earlier), address, size).unwrap_or(any)
+}
+
 /// Mappings in `[start, end)`: `number` of them, or one for each page if there are fewer pages.
-/// Many touch their forerunner, and the last one often touches the end.
+/// Many touch their forerunner, and the last one often touches the end. Some go on as an earlier
+/// one does, perhaps with others between them.
 fn fill(random: &mut Random, (start, end): (u64, u64), number: u64, into: &mut Vec<Mapping>) {
     let number = number.min((end - start) / PAGE);
     let mut address = start;
@@ -65,7 +88,7 @@ fn fill(random: &mut Random, (start, end): (u64, u64), number: u64, into: &mut V
         let gap = random.up_to(spare / left);
         let size = 1 + random.up_to((spare - gap) / left);
         address += gap * PAGE;
-        into.push(good_mapping(random, address, size * PAGE));
+        into.push(next_mapping(random, into, address, size * PAGE));
         address += size * PAGE;
     }
 }

@@ -2,6 +2,7 @@
 
 use waylluqen_compare::calls::{Asking, Caller};
 use waylluqen_compare::library::Bound;
+use waylluqen_compare::marks::Marks;
 use waylluqen_compare::near::{disturb, near_record, widen};
 use waylluqen_compare::numbers::{space_of, LIMIT};
 use waylluqen_compare::paging::assert_pages;
@@ -10,7 +11,7 @@ use waylluqen_compare::tables::{
     any_table, fill_space, good_table, plain_spaces, small_spaces, some_operation_words, Good,
     Table,
 };
-use waylluqen_model::bind::{least_operation_words, KIND_MAP, KIND_REMAP};
+use waylluqen_model::bind::{least_operation_words, KIND_MAP};
 use waylluqen_model::random::Random;
 use waylluqen_model::{
     space_holds, Grant, Mapping, Operation, Record, Request, Space, MAP, MAPPING_WORDS,
@@ -31,12 +32,18 @@ struct Tally {
     rests: [u64; 3],
     /// Requests that leave a lower rest of one mapping and an upper rest of another.
     both_ends: u64,
-    /// Unmaps and remaps with the keep mark.
-    kept: [u64; 2],
+    marks: Marks,
     /// Maps that a full table has room for only because they free some.
     freed: u64,
     /// Good spaces with nothing reserved, all, the lower end, the upper end, a part between.
     reserved: [u64; 5],
+}
+
+fn assert_each(kinds: &[(&str, &[u64])], least: u64) {
+    for (kind, times) in kinds {
+        let enough = times.iter().all(|&times| times >= least);
+        assert!(enough, "{kind} came too rarely: {times:?}");
+    }
 }
 
 /// Which part of a good space is reserved, as its place in `Tally::reserved`.
@@ -63,7 +70,7 @@ impl Tally {
             hits: [0; 4],
             rests: [0; 3],
             both_ends: 0,
-            kept: [0; 2],
+            marks: Marks::default(),
             freed: 0,
             reserved: [0; 5],
         }
@@ -101,13 +108,13 @@ impl Tally {
                 (Some(_), Some(_)) => self.rests[2] += 1,
                 (None, None) => {}
             }
-            self.kept[usize::from(cut.kind == KIND_REMAP)] += u64::from(cut.keep);
         }
         if let [first, .., last] = cuts {
             self.both_ends += u64::from(first.lower.is_some() && last.upper.is_some());
         }
         let full = table.count as usize * MAPPING_WORDS == table.words.len();
         self.freed += u64::from(maps && full);
+        self.marks.count(grant);
     }
 
     /// Every refusal, every kind of grant and every kind of cut came at least `least` times.
@@ -120,30 +127,32 @@ impl Tally {
             ("hits", &self.hits[..]),
             ("rests", &self.rests[..]),
             ("both ends", &[self.both_ends]),
-            ("kept", &self.kept[..]),
             ("freed", &[self.freed]),
             ("reserved", &self.reserved[..]),
         ];
-        for (kind, times) in kinds {
-            let enough = times.iter().all(|&times| times >= least);
-            assert!(enough, "{kind} came too rarely: {times:?}");
-        }
+        assert_each(&kinds, least);
+        self.assert_marks(least);
+    }
+
+    /// Every form of the keep mark, and all that comes near it, came at least `least` times.
+    fn assert_marks(&self, least: u64) {
+        assert_each(&self.marks.forms(), least);
     }
 
     /// Seen with `cargo test -- --nocapture`.
     fn print(&self, test: &str) {
         println!(
             "{test}: {} calls, granted {:?}, refused {:?}, hits {:?}, rests {:?}, both ends {}, \
-             kept {:?}, freed {}, reserved {:?}",
+             freed {}, reserved {:?}, {:?}",
             self.calls,
             self.granted,
             &self.refused[1..],
             self.hits,
             self.rests,
             self.both_ends,
-            self.kept,
             self.freed,
-            self.reserved
+            self.reserved,
+            self.marks
         );
     }
 }
@@ -347,10 +356,12 @@ fn page_by_page() {
     assert!(checked >= TABLES * ROUNDS / 2);
     assert!(tally.hits.iter().all(|&times| times >= 1000));
     assert!(tally.rests.iter().all(|&times| times >= 1000));
+    tally.assert_marks(50);
 }
 
 /// Every way to put mappings into so many pages: each page is free, starts one, or continues one.
-fn every_table(pages: u32) -> impl Iterator<Item = Vec<Mapping>> {
+/// They show these objects by turns, without a break between those of one object.
+fn every_table(pages: u32, objects: [u64; 2]) -> impl Iterator<Item = Vec<Mapping>> {
     (0..3u64.pow(pages)).filter_map(move |index| {
         let mut mappings: Vec<Mapping> = Vec::new();
         let mut open = false;
@@ -362,7 +373,7 @@ fn every_table(pages: u32) -> impl Iterator<Item = Vec<Mapping>> {
                     mappings.push(Mapping {
                         address: u64::from(page) * PAGE,
                         size: PAGE,
-                        object: 7,
+                        object: objects[mappings.len() % 2],
                         offset: u64::from(page + 1) * PAGE,
                     });
                 }
@@ -373,12 +384,14 @@ fn every_table(pages: u32) -> impl Iterator<Item = Vec<Mapping>> {
     })
 }
 
-/// All mappings show one object without a break, as does one of the maps: nothing is joined.
+/// One of the maps goes on as the mappings of its object do, before it and behind it: nothing is
+/// joined.
 #[test]
 fn every_table_of_six_pages() {
     const PAGES: u64 = 6;
     let mut tally = Tally::new(141);
-    for mappings in every_table(PAGES as u32) {
+    let of_one = every_table(PAGES as u32, [7, 7]);
+    for mappings in of_one.chain(every_table(PAGES as u32, [7, 8])) {
         let words: Vec<u64> = mappings.iter().flat_map(Mapping::words).collect();
         for spare in 0..=2 {
             let mut table = Table {
@@ -405,4 +418,6 @@ fn every_table_of_six_pages() {
     }
     tally.print("every table of six pages");
     assert!(tally.refused[2] > 0 && tally.refused[11] > 0);
+    assert!(tally.marks.kept.iter().all(|&times| times >= 100));
+    assert!(tally.marks.around >= 100);
 }

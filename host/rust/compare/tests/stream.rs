@@ -178,9 +178,11 @@ fn large_mapping(place: u64) -> Mapping {
 /// Records that print the same lines as often as they are added, all kinds of lines together.
 const ROUNDS: [(&str, Add); 4] = [
     ("cuts", |script| {
-        // All of it again, its start again, a part of what is left, the end of what is left.
+        // All of it again, its start again, the end of that, a part of what is left, the end of what
+        // is left.
         script.request(&Record::plain(MAP, 7, 0, 0, 12 * PAGE));
         script.request(&Record::plain(MAP, 7, 0, 0, 4 * PAGE));
+        script.request(&Record::plain(MAP, 7, 3 * PAGE, 3 * PAGE, PAGE));
         script.request(&Record::plain(MAP, 9, 5 * PAGE, 0, PAGE));
         script.request(&Record::plain(UNMAP, 0, 10 * PAGE, 0, 6 * PAGE));
     }),

@@ -74,11 +74,10 @@ fn upper_rest(old: &Mapping, range: &Extent) -> Option<Mapping> {
     })
 }
 
+/// Whether the old mapping shows what is asked for, on each page that both have.
 fn keeps(old: &Mapping, request: &Request) -> bool {
-    request.op == MAP
-        && old.address == request.address
-        && old.object == request.object
-        && old.offset == request.offset
+    new_mapping(request)
+        .is_some_and(|new| old.object == new.object && old.displacement() == new.displacement())
 }
 
 /// The operation that a hit mapping gets.

@@ -25,6 +25,11 @@ impl Mapping {
     pub fn words(&self) -> [u64; MAPPING_WORDS] {
         [self.address, self.size, self.object, self.offset]
     }
+
+    /// The offset less the address, which may be below zero.
+    pub fn displacement(&self) -> i128 {
+        i128::from(self.offset) - i128::from(self.address)
+    }
 }
 
 /// Whether the mapping keeps its own rules, whatever stands beside it in a table.

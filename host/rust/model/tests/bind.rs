@@ -89,32 +89,31 @@ fn leaves(old: &[Drawn], request: &Request, lines: &[Line], after: &[Drawn]) {
 
 const NEW_MAP: [u64; 2] = [0, 0];
 const REMAP: [u64; 2] = [1, 0];
+const KEPT_REMAP: [u64; 2] = [1, 1];
 const UNMAP_ALL: [u64; 2] = [2, 0];
+const KEPT_UNMAP: [u64; 2] = [2, 1];
 
 #[test]
 fn same_again() {
     let old = [0, 1, 7, 1];
-    let lines = [([2, 1], [old, NONE, NONE]), (NEW_MAP, [old, NONE, NONE])];
-    leaves(&[old], &map(old), &lines, &[old]);
+    leaves_one(old, old, KEPT_UNMAP, [NONE, NONE]);
 }
 
-/// A map over one mapping leaves one remap with these rests, of which one is absent.
-fn leaves_rest(old: Drawn, new: Drawn, rests: [Drawn; 2], after: [Drawn; 2]) {
-    let [lower, upper] = rests;
-    let lines = [(REMAP, [old, lower, upper]), (NEW_MAP, [new, NONE, NONE])];
+/// A map over one mapping leaves one line for it, with these rests.
+fn leaves_one(old: Drawn, new: Drawn, mark: [u64; 2], [lower, upper]: [Drawn; 2]) {
+    let lines = [(mark, [old, lower, upper]), (NEW_MAP, [new, NONE, NONE])];
+    let mut after = vec![lower, new, upper];
+    after.retain(|&drawn| drawn != NONE);
     leaves(&[old], &map(new), &lines, &after);
 }
 
 #[test]
 fn one_rest() {
-    let (lower, new) = ([0, 1, 7, 1], [1, 2, 9, 4]);
-    leaves_rest([0, 2, 7, 1], new, [lower, NONE], [lower, new]);
-    let (upper, new) = ([1, 2, 7, 2], [0, 1, 9, 4]);
-    leaves_rest([0, 2, 7, 1], new, [NONE, upper], [new, upper]);
-    let (lower, new) = ([0, 1, 7, 1], [1, 3, 9, 4]);
-    leaves_rest([0, 2, 7, 1], new, [lower, NONE], [lower, new]);
-    let (upper, new) = ([2, 3, 7, 2], [0, 2, 9, 4]);
-    leaves_rest([1, 3, 7, 1], new, [NONE, upper], [new, upper]);
+    let (low, lower) = ([0, 2, 7, 1], [0, 1, 7, 1]);
+    leaves_one(low, [1, 2, 9, 4], REMAP, [lower, NONE]);
+    leaves_one(low, [0, 1, 9, 4], REMAP, [NONE, [1, 2, 7, 2]]);
+    leaves_one(low, [1, 3, 9, 4], REMAP, [lower, NONE]);
+    leaves_one([1, 3, 7, 1], [0, 2, 9, 4], REMAP, [NONE, [2, 3, 7, 2]]);
 }
 
 #[test]
@@ -164,7 +163,7 @@ fn nothing_hit() {
 #[test]
 fn several_hit() {
     let old = [[0, 2, 7, 1], [2, 3, 8, 0], [5, 7, 7, 9], [8, 9, 7, 3]];
-    let new = [1, 6, 7, 2];
+    let new = [1, 6, 9, 2];
     let (lower, upper) = ([0, 1, 7, 1], [6, 7, 7, 10]);
     let lines = [
         (REMAP, [old[0], lower, NONE]),
@@ -196,12 +195,84 @@ fn numbers_have_64_bits() {
     assert!(ask(&[], 8, &highest).is_ok());
 }
 
+/// The first patch's drawings 6, 8, 10 and 12, and 13 and 14 where they show what was shown.
 #[test]
-fn keep_compares_no_sizes() {
-    let (old, new) = ([0, 2, 7, 1], [0, 1, 7, 1]);
-    let upper = [1, 2, 7, 2];
-    let lines = [([1, 1], [old, NONE, upper]), (NEW_MAP, [new, NONE, NONE])];
-    leaves(&[old], &map(new), &lines, &[new, upper]);
+fn kept_by_displacement() {
+    let (old, lower) = ([0, 2, 7, 1], [0, 1, 7, 1]);
+    leaves_one(old, [0, 1, 7, 1], KEPT_REMAP, [NONE, [1, 2, 7, 2]]);
+    leaves_one(old, [1, 2, 7, 2], KEPT_REMAP, [lower, NONE]);
+    leaves_one(old, [1, 3, 7, 2], KEPT_REMAP, [lower, NONE]);
+    let both = [lower, [2, 3, 7, 3]];
+    leaves_one([0, 3, 7, 1], [1, 2, 7, 2], KEPT_REMAP, both);
+    leaves_one([1, 2, 7, 1], [0, 2, 7, 0], KEPT_UNMAP, [NONE, NONE]);
+    leaves_one([1, 2, 7, 1], [0, 3, 7, 0], KEPT_UNMAP, [NONE, NONE]);
+    // Below zero.
+    let below = [3, 6, 7, 1];
+    leaves_one(below, [2, 7, 7, 0], KEPT_UNMAP, [NONE, NONE]);
+    leaves_one(below, [2, 5, 7, 0], KEPT_REMAP, [NONE, [5, 6, 7, 3]]);
+    let both = [[3, 4, 7, 1], [5, 6, 7, 3]];
+    leaves_one(below, [4, 5, 7, 2], KEPT_REMAP, both);
+}
+
+#[test]
+fn not_kept() {
+    let none = [NONE, NONE];
+    // The drawings 13 and 14.
+    leaves_one([1, 2, 7, 1], [0, 2, 7, 1], UNMAP_ALL, none);
+    leaves_one([1, 2, 7, 1], [0, 3, 7, 1], UNMAP_ALL, none);
+    // The same displacement, but another object.
+    leaves_one([0, 2, 7, 1], [1, 2, 8, 2], REMAP, [[0, 1, 7, 1], NONE]);
+    // A displacement of the same distance, but below zero; the same sum of offset and address.
+    leaves_one([1, 3, 7, 0], [1, 3, 7, 2], UNMAP_ALL, none);
+    leaves_one([1, 3, 7, 2], [2, 3, 7, 1], REMAP, [[1, 2, 7, 2], NONE]);
+    // The same offset, at another address.
+    leaves_one([0, 2, 7, 1], [1, 2, 7, 1], REMAP, [[0, 1, 7, 1], NONE]);
+    // An unmap, whose offset less its address is the mapping's.
+    let old = [0, 2, 7, 0];
+    leaves(&[old], &unmap(0, 2), &[(UNMAP_ALL, [old, NONE, NONE])], &[]);
+    let line = (REMAP, [old, NONE, [1, 2, 7, 1]]);
+    leaves(&[old], &unmap(0, 1), &[line], &[[1, 2, 7, 1]]);
+}
+
+/// Of five that are hit the first, the third and the last.
+#[test]
+fn some_kept() {
+    let old = [
+        [1, 3, 7, 0],
+        [3, 4, 8, 2],
+        [4, 6, 7, 3],
+        [7, 8, 7, 8],
+        [8, 10, 7, 7],
+    ];
+    let new = [2, 9, 7, 1];
+    let (lower, upper) = ([1, 2, 7, 0], [9, 10, 7, 8]);
+    let lines = [
+        (KEPT_REMAP, [old[0], lower, NONE]),
+        (UNMAP_ALL, [old[1], NONE, NONE]),
+        (KEPT_UNMAP, [old[2], NONE, NONE]),
+        (UNMAP_ALL, [old[3], NONE, NONE]),
+        (KEPT_REMAP, [old[4], NONE, upper]),
+        (NEW_MAP, [new, NONE, NONE]),
+    ];
+    leaves(&old, &map(new), &lines, &[lower, new, upper]);
+}
+
+#[test]
+fn displacements_of_any_words() {
+    let displacement = |address: u64, offset: u64| {
+        let (size, object) = (PAGE, 7);
+        let mapping = Mapping {
+            address,
+            size,
+            object,
+            offset,
+        };
+        mapping.displacement()
+    };
+    let highest = i128::from(u64::MAX);
+    assert_eq!(displacement(u64::MAX, 0), -highest);
+    assert_eq!(displacement(0, u64::MAX), highest);
+    assert_eq!(displacement(u64::MAX, u64::MAX), 0);
 }
 
 #[test]

@@ -112,29 +112,41 @@ fn numbers_are_decimal_and_whole() {
     );
 }
 
-/// Each operation with each of its rests, and both keep marks.
+/// An unmap, and a remap with each of its rests.
 #[test]
 fn operations_with_a_keep_mark() {
     prints(
         &[
             plain_space(),
-            map(0, 4 * PAGE, 7, 0),
-            // As it was: keep 1.
-            map(0, 4 * PAGE, 7, 0),
-            // The start alone: an upper rest, keep 1.
+            map(0, 5 * PAGE, 7, 0),
+            // As it was.
+            map(0, 5 * PAGE, 7, 0),
+            // The start alone: an upper rest.
             map(0, PAGE, 7, 0),
+            // The end alone: a lower rest. Then the middle: both.
+            map(4 * PAGE, PAGE, 7, 4 * PAGE),
+            map(2 * PAGE, PAGE, 7, 2 * PAGE),
         ],
         &[
             "space 256",
             "granted 1 1",
-            "map 0 16384 7 0",
+            "map 0 20480 7 0",
             "granted 2 1",
-            "unmap 0 16384 7 0 keep 1",
-            "map 0 16384 7 0",
+            "unmap 0 20480 7 0 keep 1",
+            "map 0 20480 7 0",
             "granted 2 2",
-            "remap 0 16384 7 0 keep 1",
-            "upper 4096 12288 7 4096",
+            "remap 0 20480 7 0 keep 1",
+            "upper 4096 16384 7 4096",
             "map 0 4096 7 0",
+            "granted 2 3",
+            "remap 4096 16384 7 4096 keep 1",
+            "lower 4096 12288 7 4096",
+            "map 16384 4096 7 16384",
+            "granted 2 5",
+            "remap 4096 12288 7 4096 keep 1",
+            "lower 4096 4096 7 4096",
+            "upper 12288 4096 7 12288",
+            "map 8192 4096 7 8192",
         ],
     );
 }

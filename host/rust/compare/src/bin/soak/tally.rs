@@ -2,6 +2,7 @@
 
 use crate::call::{Asked, Call};
 use waylluqen_compare::library::{Bound, Shown};
+use waylluqen_compare::marks::Marks;
 
 #[derive(Default)]
 pub struct Tally {
@@ -13,6 +14,7 @@ pub struct Tally {
     granted: u64,
     /// The most mappings that a grant left.
     largest: u64,
+    marks: Marks,
     mapped: u64,
     unmapped: u64,
     /// By number; those that a check does not refuse are at 0.
@@ -49,6 +51,7 @@ impl Tally {
             Ok(grant) => {
                 self.granted += 1;
                 self.largest = self.largest.max(grant.count);
+                self.marks.count(grant);
             }
             Err(refused) => self.refused[refused.number as usize] += 1,
         }
@@ -72,10 +75,13 @@ impl Tally {
             checks,
             granted,
             largest,
+            marks,
             mapped,
             unmapped,
             refused: [passed, refused @ ..],
         } = self;
+        let kept: u64 = marks.kept.iter().sum();
+        let (elsewhere, around) = (marks.elsewhere, marks.around);
         let calls = by_numbers + by_record + lookups + checks;
         let refused: Vec<String> = (1..)
             .zip(refused)
@@ -87,6 +93,8 @@ impl Tally {
              record, {lookups} look-ups, {checks} checks\n\
              {granted} requests granted, on tables of up to {largest} mappings; {mapped} addresses \
              mapped, {unmapped} not; {passed} checks passed\n\
+             {kept} old mappings kept, {elsewhere} of them at another address than the new one; \
+             {around} maps had one that was not kept between two that were\n\
              refused {}",
             refused.join(", ")
         )
