@@ -34,7 +34,7 @@ struct entry {
 /* Stands for the page table that the GPU reads. */
 struct page_table {
     struct entry entries[PAGES];
-    uint64_t memory; /* how many entries can be changed until there is no memory; a simulation */
+    uint64_t memory; /* how many entries can be changed until one can't be; a simulation */
 };
 
 /* A table's words and their count: they change together, so they are copied together. */
@@ -51,10 +51,14 @@ struct address_space {
     uint64_t compared; /* how often the pages were compared with look-ups */
 };
 
-/* The pages that a request changes, [start, end): its range but for the pages that are kept at its
- * front. And how many page entries it clears, keeps and writes. */
-struct walk {
-    uint64_t start, end, cleared, kept, written;
+/* Addresses of whole pages, [start, end). */
+struct range {
+    uint64_t start, end;
+};
+
+/* How many page entries a request clears, keeps and writes. */
+struct counts {
+    uint64_t cleared, kept, written;
 };
 
 /* What became of a request. REFUSED and WENT_BACK leave all as it was. */
@@ -123,71 +127,91 @@ static struct entry *entry_of(struct page_table *pages, uint64_t address)
     return &pages->entries[(address - START) / PAGE];
 }
 
-/* False if there is no memory for it, as where a large page would have to be split first. */
+/* False if there is no memory for it, as where a large page would have to be split first. For the
+ * next one there is memory again, so that passing over a failure shows. */
 static bool change(struct page_table *pages, uint64_t address, struct entry entry)
 {
-    if (pages->memory == 0) {
+    if (pages->memory-- == 0) {
         return false;
     }
-    pages->memory--;
     *entry_of(pages, address) = entry;
     return true;
 }
 
-/* Writes the new mapping's entries, but for those that were kept: they are right already. */
-static bool map(struct page_table *pages, struct walk *walk, const uint64_t *new)
+/* What an old mapping loses: all between its rests. */
+static struct range lost(const uint64_t *operation)
 {
-    for (uint64_t at = walk->start; at < end_of(new); at += PAGE) {
+    const uint64_t *old = operation + WAYLLUQEN_OPERATION_MAPPING;
+    const uint64_t *lower = operation + WAYLLUQEN_OPERATION_LOWER;
+    const uint64_t *upper = operation + WAYLLUQEN_OPERATION_UPPER;
+    struct range range = {old[WAYLLUQEN_MAPPING_ADDRESS], end_of(old)};
+    if (lower[WAYLLUQEN_MAPPING_SIZE] != 0) {
+        range.start = end_of(lower);
+    }
+    if (upper[WAYLLUQEN_MAPPING_SIZE] != 0) {
+        range.end = upper[WAYLLUQEN_MAPPING_ADDRESS];
+    }
+    return range;
+}
+
+/* With keep the entries are left alone: the new mapping shows the same there. */
+static bool unmap(struct page_table *pages, struct counts *counts, const uint64_t *operation)
+{
+    struct range old = lost(operation);
+    if (operation[WAYLLUQEN_OPERATION_KEEP]) {
+        counts->kept += (old.end - old.start) / PAGE;
+        return true;
+    }
+    for (uint64_t at = old.start; at < old.end; at += PAGE) {
+        if (!change(pages, at, (struct entry){0, 0})) {
+            return false;
+        }
+        counts->cleared++;
+    }
+    return true;
+}
+
+/* Writes the new mapping's entries from start to end. */
+static bool write_entries(struct page_table *pages, struct counts *counts, const uint64_t *new,
+                          uint64_t start, uint64_t end)
+{
+    for (uint64_t at = start; at < end; at += PAGE) {
         uint64_t offset = new[WAYLLUQEN_MAPPING_OFFSET] + (at - new[WAYLLUQEN_MAPPING_ADDRESS]);
         if (!change(pages, at, (struct entry){new[WAYLLUQEN_MAPPING_OBJECT], offset})) {
             return false;
         }
-        walk->written++;
+        counts->written++;
     }
     return true;
 }
 
-/* Clears [start, end), which an old mapping loses. With keep nothing is cleared: the new mapping
- * starts with the same address, object and offset, so that it shows the same up to end. */
-static bool unmap(struct page_table *pages, struct walk *walk, uint64_t keep, uint64_t start,
-                  uint64_t end)
+/* Writes what was not kept: the entries in front of, between and behind those that were. A map is
+ * the last operation of its list, and the others are in ascending order of their addresses. */
+static bool map(struct page_table *pages, struct counts *counts, const uint64_t *list,
+                const uint64_t *operation)
 {
-    if (keep) {
-        walk->kept = (end - start) / PAGE;
-        walk->start = end;
-        return true;
-    }
-    for (uint64_t at = start; at < end; at += PAGE) {
-        if (!change(pages, at, (struct entry){0, 0})) {
-            return false;
+    const uint64_t *new = operation + WAYLLUQEN_OPERATION_MAPPING;
+    uint64_t start = new[WAYLLUQEN_MAPPING_ADDRESS];
+    for (const uint64_t *old = list; old < operation; old += WAYLLUQEN_OPERATION_WORDS) {
+        if (old[WAYLLUQEN_OPERATION_KEEP]) {
+            struct range kept = lost(old);
+            if (!write_entries(pages, counts, new, start, kept.start)) {
+                return false;
+            }
+            start = kept.end;
         }
-        walk->cleared++;
     }
-    return true;
+    return write_entries(pages, counts, new, start, end_of(new));
 }
 
-/* False if it failed, perhaps half-way. */
-static bool carry_out(struct page_table *pages, struct walk *walk, const uint64_t *operation)
+/* Carries out an operation of the list; false if it failed, perhaps half-way. */
+static bool carry_out(struct page_table *pages, struct counts *counts, const uint64_t *list,
+                      const uint64_t *operation)
 {
-    const uint64_t *mapping = operation + WAYLLUQEN_OPERATION_MAPPING;
-    const uint64_t *lower = operation + WAYLLUQEN_OPERATION_LOWER;
-    const uint64_t *upper = operation + WAYLLUQEN_OPERATION_UPPER;
-    uint64_t start = mapping[WAYLLUQEN_MAPPING_ADDRESS], end = end_of(mapping);
-    switch (operation[WAYLLUQEN_OPERATION_KIND]) {
-    case WAYLLUQEN_KIND_MAP:
-        return map(pages, walk, mapping);
-    case WAYLLUQEN_KIND_REMAP: /* the mapping loses what is between its rests */
-        if (lower[WAYLLUQEN_MAPPING_SIZE] != 0) {
-            start = end_of(lower);
-        }
-        if (upper[WAYLLUQEN_MAPPING_SIZE] != 0) {
-            end = upper[WAYLLUQEN_MAPPING_ADDRESS];
-        }
-        break;
-    case WAYLLUQEN_KIND_UNMAP:
-        break;
+    if (operation[WAYLLUQEN_OPERATION_KIND] == WAYLLUQEN_KIND_MAP) {
+        return map(pages, counts, list, operation);
     }
-    return unmap(pages, walk, operation[WAYLLUQEN_OPERATION_KEEP], start, end);
+    return unmap(pages, counts, operation); /* a remap too: its rests show what they showed */
 }
 
 static waylluqen_translation look_up(const struct address_space *space, uint64_t address)
@@ -197,13 +221,13 @@ static waylluqen_translation look_up(const struct address_space *space, uint64_t
 }
 
 /* Takes back what failed half-way: the table by its copy, and the entries by look-ups in it. Only
- * pages of the range can have changed, and none that was kept. No memory is needed for what was
- * there before, if the page table gives none back until all is carried out. */
-static void go_back(struct address_space *space, const struct table *before,
-                    const struct walk *walk)
+ * pages of the asked range can have changed; one that was kept gets the entry that it has. No
+ * memory is needed for what was there before, if the page table gives none back until all is
+ * carried out. */
+static void go_back(struct address_space *space, const struct table *before, struct range asked)
 {
     space->table = *before;
-    for (uint64_t at = walk->start; at < walk->end; at += PAGE) {
+    for (uint64_t at = asked.start; at < asked.end; at += PAGE) {
         /* Not refused, since the bind took this table; zeros where nothing is mapped. */
         waylluqen_translation shown = look_up(space, at);
         *entry_of(&space->pages, at) = (struct entry){shown.object, shown.offset};
@@ -211,23 +235,24 @@ static void go_back(struct address_space *space, const struct table *before,
 }
 
 /* Carries a grant's operations out in order, or goes back. Either way a driver then flushes the
- * GPU's TLB. */
+ * GPU's TLB, but not for what was kept. */
 static enum outcome finish(struct address_space *space, const struct table *before,
                            waylluqen_answer granted, uint64_t address, uint64_t size)
 {
-    struct walk walk = {.start = address, .end = address + size};
+    struct counts counts = {0};
+    const uint64_t *list = space->operations;
     space->table.count = granted.count;
     for (uint64_t i = 0; i < granted.operations; i++) {
-        if (!carry_out(&space->pages, &walk, space->operations + i * WAYLLUQEN_OPERATION_WORDS)) {
-            go_back(space, before, &walk);
+        if (!carry_out(&space->pages, &counts, list, list + i * WAYLLUQEN_OPERATION_WORDS)) {
+            go_back(space, before, (struct range){address, address + size});
             return WENT_BACK;
         }
     }
     for (uint64_t i = 0; i < granted.operations; i++) {
-        print_operation(space->operations + i * WAYLLUQEN_OPERATION_WORDS);
+        print_operation(list + i * WAYLLUQEN_OPERATION_WORDS);
     }
     printf("  page entries: %" PRIu64 " cleared, %" PRIu64 " kept, %" PRIu64 " written\n",
-           walk.cleared, walk.kept, walk.written);
+           counts.cleared, counts.kept, counts.written);
     return CARRIED_OUT;
 }
 
@@ -294,9 +319,11 @@ static void ask(struct address_space *space)
         waylluqen_request request;
     } asked[] = {
         {"map the framebuffer", {WAYLLUQEN_OP_MAP, 0x100000, 8 * PAGE, FRAMEBUFFER, 0}},
-        {"map the texture into it", {WAYLLUQEN_OP_MAP, 0x102000, 2 * PAGE, TEXTURE, 0x5000}},
-        {"map more of the texture", {WAYLLUQEN_OP_MAP, 0x102000, 4 * PAGE, TEXTURE, 0x5000}},
-        {"map its first page again", {WAYLLUQEN_OP_MAP, 0x102000, 1 * PAGE, TEXTURE, 0x5000}},
+        {"map the texture into it", {WAYLLUQEN_OP_MAP, 0x102000, 2 * PAGE, TEXTURE, 0x500000}},
+        {"map more of the texture", {WAYLLUQEN_OP_MAP, 0x102000, 5 * PAGE, TEXTURE, 0x500000}},
+        {"map its third page again", {WAYLLUQEN_OP_MAP, 0x104000, 1 * PAGE, TEXTURE, 0x502000}},
+        {"map its neighbours too", {WAYLLUQEN_OP_MAP, 0x103000, 3 * PAGE, TEXTURE, 0x501000}},
+        {"map the framebuffer again", {WAYLLUQEN_OP_MAP, 0x100000, 8 * PAGE, FRAMEBUFFER, 0}},
         {"unmap two pages", {WAYLLUQEN_OP_UNMAP, 0x101000, 2 * PAGE, 0, 0}},
     };
     for (size_t i = 0; i < LENGTH(asked); i++) {
@@ -336,7 +363,7 @@ static void ask_by_record(struct address_space *space)
         size_t missing; /* bytes */
         waylluqen_request request;
     } asked[] = {
-        {"map the ring", 0, 0, {WAYLLUQEN_OP_MAP, 0x101000, 3 * PAGE, RING, 0}},
+        {"map a part of the ring", 0, 0, {WAYLLUQEN_OP_MAP, 0x102000, 3 * PAGE, RING, 0x1000}},
         {"map past 2^64", 0, 0, {WAYLLUQEN_OP_MAP, UINT64_MAX - PAGE + 1, 2 * PAGE, RING, 0}},
         {"map the reservation", 0, 0, {WAYLLUQEN_OP_MAP, 0x10d000, 2 * PAGE, RING, 0}},
         {"unmap an object", 0, 0, {WAYLLUQEN_OP_UNMAP, 0x101000, 3 * PAGE, RING, 0}},
@@ -407,8 +434,8 @@ static void ask_without_memory(struct address_space *space)
         bool by_record;
         waylluqen_request request;
     } asked[] = {
-        {"map into the ring", false, {WAYLLUQEN_OP_MAP, 0x102000, 1 * PAGE, TEXTURE, 0}},
-        {"map more of the ring", false, {WAYLLUQEN_OP_MAP, 0x101000, 6 * PAGE, RING, 0}},
+        {"map into the ring", false, {WAYLLUQEN_OP_MAP, 0x103000, 1 * PAGE, TEXTURE, 0}},
+        {"map all of the ring", false, {WAYLLUQEN_OP_MAP, 0x101000, 6 * PAGE, RING, 0}},
         {"map where nothing is", true, {WAYLLUQEN_OP_MAP, 0x10a000, 2 * PAGE, FRAMEBUFFER, 0}},
         {"map across three mappings", true, {WAYLLUQEN_OP_MAP, 0x105000, 6 * PAGE, TEXTURE, 0}},
         {"unmap across two", true, {WAYLLUQEN_OP_UNMAP, 0x104000, 3 * PAGE, 0, 0}},

@@ -8,6 +8,7 @@
 
 use std::error::Error;
 use std::fmt;
+use std::ops::Range;
 use std::process::ExitCode;
 use waylluqen::{operation_list_words, table_words, Mapping, Operation, Operations, Refusal};
 use waylluqen::{Request, Rests, Space, Table, Translation, View};
@@ -31,7 +32,7 @@ type Entry = Option<Translation>;
 #[derive(Clone, PartialEq)]
 struct PageTable {
     entries: [Entry; PAGES],
-    /// How many entries can be changed until there is no memory; a simulation.
+    /// How many entries can be changed until one can't be; a simulation.
     memory: u64,
 }
 
@@ -53,12 +54,9 @@ struct AddressSpace {
     compared: u64,
 }
 
-/// The pages that a request changes, `[start, end)`: its range but for the pages that are kept at
-/// its front. And how many page entries it clears, keeps and writes.
+/// How many page entries a request clears, keeps and writes.
 #[derive(Default)]
-struct Walk {
-    start: u64,
-    end: u64,
+struct Counts {
     cleared: u64,
     kept: u64,
     written: u64,
@@ -129,78 +127,118 @@ fn print_operation(operation: Operation) {
     }
 }
 
+/// What an old mapping loses: all between its rests.
+fn lost(old: Mapping, rests: Option<Rests>) -> Range<u64> {
+    match rests {
+        None => old.address..end_of(old),
+        Some(Rests::Lower(lower)) => end_of(lower)..end_of(old),
+        Some(Rests::Upper(upper)) => old.address..upper.address,
+        Some(Rests::Both { lower, upper }) => end_of(lower)..upper.address,
+    }
+}
+
+/// What it loses, if it has the keep mark.
+fn kept(operation: Operation) -> Option<Range<u64>> {
+    match operation {
+        Operation::Remap { old, rests, keep } => keep.then(|| lost(old, Some(rests))),
+        Operation::Unmap { old, keep } => keep.then(|| lost(old, None)),
+        Operation::Map(_) => None,
+    }
+}
+
+fn each_page(range: Range<u64>) -> impl Iterator<Item = u64> {
+    range.step_by(PAGE as usize)
+}
+
 impl PageTable {
     fn entry(&mut self, address: u64) -> &mut Entry {
         &mut self.entries[((address - START) / PAGE) as usize]
     }
 
+    /// Where there was no memory there is some for the next one, so that passing over a failure
+    /// shows.
     fn change(&mut self, address: u64, entry: Entry) -> Result<(), NoMemory> {
-        self.memory = self.memory.checked_sub(1).ok_or(NoMemory)?;
+        let memory = self.memory;
+        self.memory = memory.wrapping_sub(1);
+        if memory == 0 {
+            return Err(NoMemory);
+        }
         *self.entry(address) = entry;
         Ok(())
     }
 
-    /// Writes the new mapping's entries, but for those that were kept: they are right already.
-    fn map(&mut self, walk: &mut Walk, new: Mapping) -> Result<(), NoMemory> {
-        for at in (walk.start..end_of(new)).step_by(PAGE as usize) {
-            let (object, offset) = (new.object, new.offset + (at - new.address));
-            self.change(at, Some(Translation { object, offset }))?;
-            walk.written += 1;
-        }
-        Ok(())
-    }
-
-    /// Clears `[start, end)`, which an old mapping loses. With keep nothing is cleared: the new
-    /// mapping starts with the same address, object and offset, so that it shows the same up to the
-    /// end.
-    fn unmap(&mut self, walk: &mut Walk, keep: bool, start: u64, end: u64) -> Result<(), NoMemory> {
+    /// With keep the entries are left alone: the new mapping shows the same there.
+    fn unmap(&mut self, counts: &mut Counts, old: Range<u64>, keep: bool) -> Result<(), NoMemory> {
         if keep {
-            walk.kept = (end - start) / PAGE;
-            walk.start = end;
+            counts.kept += (old.end - old.start) / PAGE;
             return Ok(());
         }
-        for at in (start..end).step_by(PAGE as usize) {
+        for at in each_page(old) {
             self.change(at, None)?;
-            walk.cleared += 1;
+            counts.cleared += 1;
         }
         Ok(())
     }
 
-    fn carry_out(&mut self, walk: &mut Walk, operation: Operation) -> Result<(), NoMemory> {
+    /// Writes the new mapping's entries in a part of it.
+    fn write_entries(
+        &mut self,
+        counts: &mut Counts,
+        new: Mapping,
+        part: Range<u64>,
+    ) -> Result<(), NoMemory> {
+        for at in each_page(part) {
+            let (object, offset) = (new.object, new.offset + (at - new.address));
+            self.change(at, Some(Translation { object, offset }))?;
+            counts.written += 1;
+        }
+        Ok(())
+    }
+
+    /// Writes what was not kept: the entries in front of, between and behind those that were. A map
+    /// is the last operation of its list, and the others are in ascending order of their addresses.
+    fn map(
+        &mut self,
+        counts: &mut Counts,
+        list: Operations<'_>,
+        new: Mapping,
+    ) -> Result<(), NoMemory> {
+        let mut start = new.address;
+        for kept in list.filter_map(kept) {
+            self.write_entries(counts, new, start..kept.start)?;
+            start = kept.end;
+        }
+        self.write_entries(counts, new, start..end_of(new))
+    }
+
+    /// Carries out an operation of the list.
+    fn carry_out(
+        &mut self,
+        counts: &mut Counts,
+        list: Operations<'_>,
+        operation: Operation,
+    ) -> Result<(), NoMemory> {
         match operation {
-            Operation::Map(new) => self.map(walk, new),
-            // The mapping loses what is between its rests.
+            Operation::Map(new) => self.map(counts, list, new),
+            // Its rests show what they showed.
             Operation::Remap { old, rests, keep } => {
-                let (start, end) = match rests {
-                    Rests::Lower(lower) => (end_of(lower), end_of(old)),
-                    Rests::Upper(upper) => (old.address, upper.address),
-                    Rests::Both { lower, upper } => (end_of(lower), upper.address),
-                };
-                self.unmap(walk, keep, start, end)
+                self.unmap(counts, lost(old, Some(rests)), keep)
             }
-            Operation::Unmap { old, keep } => self.unmap(walk, keep, old.address, end_of(old)),
+            Operation::Unmap { old, keep } => self.unmap(counts, lost(old, None), keep),
         }
     }
 
-    /// Carries a grant's operations out in order; then a driver flushes the GPU's TLB.
-    fn finish(&mut self, walk: &mut Walk, operations: Operations<'_>) -> Result<(), NoMemory> {
-        for operation in operations.clone() {
-            self.carry_out(walk, operation)?;
+    /// Carries a grant's operations out in order; then a driver flushes the GPU's TLB, but not for
+    /// what was kept.
+    fn finish(&mut self, list: Operations<'_>) -> Result<(), NoMemory> {
+        let mut counts = Counts::default();
+        for operation in list.clone() {
+            self.carry_out(&mut counts, list.clone(), operation)?;
         }
-        operations.for_each(print_operation);
-        let (cleared, kept, written) = (walk.cleared, walk.kept, walk.written);
+        list.for_each(print_operation);
+        let (cleared, kept, written) = (counts.cleared, counts.kept, counts.written);
         println!("  page entries: {cleared} cleared, {kept} kept, {written} written");
         Ok(())
-    }
-}
-
-impl Walk {
-    fn over(address: u64, size: u64) -> Walk {
-        Walk {
-            start: address,
-            end: address + size,
-            ..Walk::default()
-        }
     }
 }
 
@@ -218,9 +256,9 @@ impl AddressSpace {
         let mut table = Table::with_count(&mut self.table.words, self.table.count);
         let operations = table.bind(self.bounds, request, &mut self.operations)?;
         self.table.count = table.count();
-        let mut walk = Walk::over(request.address, request.size);
-        let done = self.pages.finish(&mut walk, operations);
-        done.map_err(|NoMemory| self.go_back(before, walk))
+        let asked = request.address..request.address + request.size;
+        let done = self.pages.finish(operations);
+        done.map_err(|NoMemory| self.go_back(before, asked))
     }
 
     fn bind_record(&mut self, record: &[u8]) -> Result<(), Failure> {
@@ -229,18 +267,18 @@ impl AddressSpace {
         let operations = table.bind_record(self.bounds, record, &mut self.operations)?;
         self.table.count = table.count();
         // It is granted, so it has all its bytes; these are addr and range.
-        let mut walk = Walk::over(get(record, 16), get(record, 32));
-        let done = self.pages.finish(&mut walk, operations);
-        done.map_err(|NoMemory| self.go_back(before, walk))
+        let (address, size) = (get(record, 16), get(record, 32));
+        let done = self.pages.finish(operations);
+        done.map_err(|NoMemory| self.go_back(before, address..address + size))
     }
 
     /// Takes back what failed half-way: the table by its copy, and the entries by look-ups in it.
-    /// Only pages of the range can have changed, and none that was kept. No memory is needed for
-    /// what was there before, if the page table gives none back until all is carried out. Then a
-    /// driver flushes the TLB here too.
-    fn go_back(&mut self, before: Stored, walk: Walk) -> Failure {
+    /// Only pages of the asked range can have changed; one that was kept gets the entry that it has.
+    /// No memory is needed for what was there before, if the page table gives none back until all
+    /// is carried out. Then a driver flushes the TLB here too.
+    fn go_back(&mut self, before: Stored, asked: Range<u64>) -> Failure {
         self.table = before;
-        for at in (walk.start..walk.end).step_by(PAGE as usize) {
+        for at in each_page(asked) {
             let shown = self.look_up(at).expect("the bind took this table");
             *self.pages.entry(at) = shown;
         }
@@ -284,14 +322,17 @@ impl AddressSpace {
 /// Requests by numbers, as a driver makes them itself.
 fn ask(space: &mut AddressSpace) -> Result<(), Box<dyn Error>> {
     let framebuffer = Request::map(0x10_0000, 8 * PAGE, FRAMEBUFFER, 0);
-    let texture = Request::map(0x10_2000, 2 * PAGE, TEXTURE, 0x5000);
-    let longer = Request::map(0x10_2000, 4 * PAGE, TEXTURE, 0x5000);
-    let shorter = Request::map(0x10_2000, PAGE, TEXTURE, 0x5000);
+    let texture = Request::map(0x10_2000, 2 * PAGE, TEXTURE, 0x50_0000);
+    let longer = Request::map(0x10_2000, 5 * PAGE, TEXTURE, 0x50_0000);
+    let third = Request::map(0x10_4000, PAGE, TEXTURE, 0x50_2000);
+    let around = Request::map(0x10_3000, 3 * PAGE, TEXTURE, 0x50_1000);
     for (what, request) in [
         ("map the framebuffer", framebuffer),
         ("map the texture into it", texture),
         ("map more of the texture", longer),
-        ("map its first page again", shorter),
+        ("map its third page again", third),
+        ("map its neighbours too", around),
+        ("map the framebuffer again", framebuffer),
         ("unmap two pages", Request::unmap(0x10_1000, 2 * PAGE)),
     ] {
         println!("{what}");
@@ -324,8 +365,8 @@ fn make_record(request: Request, flags: u64) -> [u8; RECORD_BYTES] {
 
 /// Requests by records, as programs hand them over in an ioctl: a good one, then hostile ones.
 fn ask_by_record(space: &mut AddressSpace) -> Result<(), Box<dyn Error>> {
-    println!("map the ring");
-    let ring = Request::map(0x10_1000, 3 * PAGE, RING, 0);
+    println!("map a part of the ring");
+    let ring = Request::map(0x10_2000, 3 * PAGE, RING, 0x1000);
     space.bind_record(&make_record(ring, 0))?;
     space.compare()?;
 
@@ -397,9 +438,9 @@ fn fail_half_way(
 
 /// Requests that hit mappings in all ways: in the middle, at an end, wholly, and with keep.
 fn ask_without_memory(space: &mut AddressSpace) -> Result<(), Box<dyn Error>> {
-    let into = Request::map(0x10_2000, PAGE, TEXTURE, 0);
-    let more = Request::map(0x10_1000, 6 * PAGE, RING, 0);
-    for (what, request) in [("map into the ring", into), ("map more of the ring", more)] {
+    let into = Request::map(0x10_3000, PAGE, TEXTURE, 0);
+    let whole = Request::map(0x10_1000, 6 * PAGE, RING, 0);
+    for (what, request) in [("map into the ring", into), ("map all of the ring", whole)] {
         println!("{what}, at first without memory");
         fail_half_way(space, |space| space.bind(request))?;
     }
