@@ -97,7 +97,7 @@ fn nothing_is_outside_and_nothing_in_the_way_of_a_text() {
     check(&worked());
     (1..=10).for_each(|number| check(&startup(number)));
     // All but 5, which has no mapping, and those of a table that fills.
-    for number in (1..=4).chain(6..=40).chain([100, 276, 277]) {
+    for number in (1..=4).chain(6..=40).chain([100, 280, 281]) {
         check(&view(EVERY_LINE, number, None));
     }
     for number in [1, 2, 12, 128, 255, 256, 257, 258, 259, 260, 261] {

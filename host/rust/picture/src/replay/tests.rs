@@ -46,7 +46,7 @@ fn the_worked_example() {
 fn every_example_replays() {
     for (text, grants) in [
         (include_str!("../../../../../examples/startup.out"), 10),
-        (include_str!("../../../../../examples/every-line.out"), 277),
+        (include_str!("../../../../../examples/every-line.out"), 281),
         (include_str!("../../../../../examples/full-table.out"), 261),
         (include_str!("../../../../../examples/broken.out"), 1),
         ("refused 1\nat 0 none\ncut 3\n", 0),
