@@ -32,7 +32,7 @@ pub mod ByRows
 pub mod Exactly
 pub mod Granted
 pub mod Demand2
-pub mod Stays
+pub mod KeepShows
 pub mod Replays
 pub mod Demand3
 pub mod Drawings

@@ -96,14 +96,12 @@ Marked r o word = (word ≤ 1) × ((word ≡ 1) ↔ ((m : Mapping) × m ∈ old 
 abbrev pub Keep : Type 0
 Keep = (r : Request) (ms : List Mapping) → Each (λ o. Marked r o (getD (operationWords o) 1 0)) (operations r ms)
 
--- and what that means to a driver: 1 exactly if each byte that the old mapping has inside the range shows after the grant
--- what it showed before, so that its page entries can stay
-abbrev pub Stays : Space → Request → Table → Table → Mapping → Type 0
-Stays s r t u m = (x : ℕ) → m .address ≤ x → x < end m → r .address ≤ x → x < stop r → lookup s u x ≡ lookup s t x
-
+-- and what that means to a driver: a byte that the old mapping has inside the range shows after the grant what it
+-- showed before exactly if the word is 1, so that page entries can stay exactly there
 abbrev pub KeepShows : Type 0
 KeepShows = (s : Space) (t : Table) (os : List ℕ) (q : Asking) (g : Grant) → bind s t os q .answer ≡ answered g
-    → Each (λ o. (m : Mapping) → m ∈ old o → (getD (operationWords o) 1 0 ≡ 1) ↔ Stays s (asked q) t (tableAfter t (bind s t os q)) m)
+    → Each (λ o. (m : Mapping) → m ∈ old o → (x : ℕ) → m .address ≤ x → x < end m → asked q .address ≤ x → x < stop (asked q)
+        → (getD (operationWords o) 1 0 ≡ 1) ↔ (lookup s (tableAfter t (bind s t os q)) x ≡ lookup s t x))
     (operations (asked q) (mappings t))
 
 -- document 01: an operation is 14 words: kind, keep, the old mapping (a map's new one), the lower rest, the upper rest;
