@@ -101,7 +101,7 @@ Keep = (r : Request) (ms : List Mapping) → Each (λ o. Marked r o (getD (opera
 abbrev pub KeepShows : Type 0
 KeepShows = (s : Space) (t : Table) (os : List ℕ) (q : Asking) (g : Grant) → bind s t os q .answer ≡ answered g
     → Each (λ o. (m : Mapping) → m ∈ old o → (x : ℕ) → m .address ≤ x → x < end m → asked q .address ≤ x → x < stop (asked q)
-        → (getD (operationWords o) 1 0 ≡ 1) ↔ (lookup s (tableAfter t (bind s t os q)) x ≡ lookup s t x))
+    → (getD (operationWords o) 1 0 ≡ 1) ↔ (lookup s (tableAfter t (bind s t os q)) x ≡ lookup s t x))
     (operations (asked q) (mappings t))
 
 -- document 01: an operation is 14 words: kind, keep, the old mapping (a map's new one), the lower rest, the upper rest;
