@@ -21,7 +21,7 @@ pub record Cuttable (r : Request) (m : Mapping) : Type 0 where
   pub end-most : end m ≤ limit
   pub offset-most : m .offset + m .size ≤ limit
 
--- the displacement fits in 64 bits with a sign
+-- address and offset are not large: the displacement fits in 64 bits with a sign
 abbrev pub Bounded : Mapping → Type 0
 Bounded m = (m .address ≤ limit) × (m .offset ≤ limit)
 

@@ -69,7 +69,7 @@ fn agree(m: Mapping, n: Mapping) -> bool
 
 // Document 02: keep.
 fn keep_mark(r: Request, m: Mapping) -> bool
-    requires { ⌜ Cuttable r m × (r .offset ≤ limit) ⌝ }
+    requires { ⌜ Bounded m × Bounded (mappingOf r) ⌝ }
     ensures { λ k. ⌜ k ≡ keepMark r m ⌝ }
 {
     let asked = new_mapping(r);

@@ -1,6 +1,6 @@
-// The sixteen drawings of document 000, read without joining, the unmarked rows of document 01's table, and the keep mark
-// of document 02. Each row is asked of the public call, and every word that the call answers and leaves is
-// compared with the words that the row expects.
+// The sixteen drawings of document 000, read without joining, the unmarked rows of document 01's
+// table, and document 02's keep mark. Each row is asked of the public call, and every word that the
+// call answers and leaves is compared with the words that the row expects.
 mod rows;
 mod show;
 
@@ -185,8 +185,9 @@ fn run(text: &[u8]) {
 
 // A row: label; old mappings; what to map; the operations, each with its kind, keep, mapping, lower
 // and upper rest, or a refusal; the mappings afterwards. In pages: [0,2) 7@1 is object 7 at page
-// offset 1. A `-` is an absent rest. 1 to 16 are document 000's, 17 to 19 document 01's unmarked ones. 20 to 23 are of
-// document 02's keep mark: 13 and 14 with contiguous offsets; offsets below the address; one below it and one above.
+// offset 1. A `-` is an absent rest. 1 to 16 are document 000's, 17 to 19 document 01's unmarked ones,
+// 20 to 23 of document 02's keep mark: 13 and 14 with contiguous offsets; offsets below the address;
+// one below it and one above.
 fn main() {
     show::text(b"| | old | request | result | table afterwards |\n|---|---|---|---|---|\n");
     run(

@@ -4,17 +4,43 @@
 use mathlib.Core.Path.{_≡_, refl, sym, ap, _∙_}
 use mathlib.Core.Logic.{_↔_}
 use mathlib.Core.Bool.{Bool, true, false, cond}
-use Prim.Native.Nat.{ℕ, zero, suc, _+_, _-_}
+use mathlib.Core.List.{List, [], _∷_, map}
+use Prim.Native.Nat.{ℕ, zero, suc, _+_, _-_, _*_}
 use native.Mathlib.Omega.{arith}
 use lib.Dec.{T, ltb, eqb→eq}
 use lib.IntN.{ℤ, pos, negsuc, subℕ, _-ℤ_}
 use borrow.Author.Tests.{ltb-true, ltb-false, le-ltb}
 use Rattle.model.specs.Prelude.{Mapping}
+use Rattle.model.specs.Rows.{all}
 use Rattle.model.specs.Cut.{displacement, eqZ, agreeTests}
 use Rattle.model.specs.Exactly.{Agree}
 use Rattle.model.proofs.Tests.{Says, eq→eqb}
 
--- the test of whole numbers
+-- ── worked cases ──
+
+-- in pages: [a, a + 2) o@f
+twoPages : ℕ → ℕ → ℕ → Mapping
+twoPages a o f = record { address = a * 4096; size = 8192; object = o; offset = f * 4096 }
+
+-- an offset above the address, and one below it
+above-zero : displacement (twoPages 0 7 1) ≡ pos 4096
+unfolding twoPages
+above-zero = refl
+
+below-zero : displacement (twoPages 2 7 1) ≡ negsuc 4095
+unfolding twoPages
+below-zero = refl
+
+agreed : List Bool
+agreed = map (λ n. all (agreeTests (twoPages 0 7 1) n)) (twoPages 0 7 1 ∷ twoPages 1 7 2 ∷ twoPages 1 8 2 ∷ twoPages 1 7 1 ∷ twoPages 1 7 0 ∷ [])
+
+-- the same; one that goes on; another object; another displacement; the other sign, and the same sum
+as-agreed : agreed ≡ true ∷ true ∷ false ∷ false ∷ false ∷ []
+unfolding agreed twoPages
+as-agreed = refl
+
+-- ── the test of whole numbers ──
+
 pub eqZ-says : (x y : ℤ) → T (eqZ x y) ↔ (x ≡ y)
 eqZ-says (pos a) (pos b) = (λ t. ap pos (eqb→eq a b t), λ e. let d : a ≡ b = cc in eq→eqb a b d)
 eqZ-says (negsuc a) (negsuc b) = (λ t. ap negsuc (eqb→eq a b t), λ e. let d : a ≡ b = cc in eq→eqb a b d)
@@ -45,9 +71,9 @@ displaced f a g b e = go (ltb f a) refl (ltb g b) refl
     go false p false q = ap pos (omega (arith, e, ltb-false f a p, ltb-false g b q))
 
 -- the difference in the library's words
-pub less : (f a : ℕ) → pos f -ℤ pos a ≡ subℕ f a
-less f zero = ap pos (omega arith) ∙ sym (ap (λ (b : Bool). signed b f 0) (le-ltb f 0 (omega arith)))
-less f (suc a) = refl
+pub minus-is : (f a : ℕ) → pos f -ℤ pos a ≡ subℕ f a
+minus-is f zero = ap pos (omega arith) ∙ sym (ap (λ (b : Bool). signed b f 0) (le-ltb f 0 (omega arith)))
+minus-is f (suc a) = refl
 
 -- ── mappings ──
 
@@ -56,15 +82,21 @@ module _ (m n : Mapping) where
   displacement-crosswise =
       (crosswise (m .offset) (m .address) (n .offset) (n .address), displaced (m .offset) (m .address) (n .offset) (n .address))
 
-  pub agree-says : Says (agreeTests m n) (Agree m n)
-  agree-says = (
-    λ h. (eqb→eq _ _ (h .0), less (m .offset) (m .address) ∙ eqZ-says (displacement m) (displacement n) .0 (h .1 .0) ∙ sym (less (n .offset) (n .address))),
-    λ a. (eq→eqb _ _ (a .0), (eqZ-says (displacement m) (displacement n) .1 (sym (less (m .offset) (m .address)) ∙ a .1 ∙ less (n .offset) (n .address)), tt)),
+  -- agreement by the definition, and without numbers below zero
+  agree-displacement : Agree m n ↔ ((m .object ≡ n .object) × (displacement m ≡ displacement n))
+  agree-displacement = (
+    λ a. (a .0, sym (minus-is (m .offset) (m .address)) ∙ a .1 ∙ minus-is (n .offset) (n .address)),
+    λ a. (a .0, minus-is (m .offset) (m .address) ∙ a .1 ∙ sym (minus-is (n .offset) (n .address))),
   )
 
-  -- agreement without numbers below zero
   pub agree-crosswise : Agree m n ↔ ((m .object ≡ n .object) × (m .offset + n .address ≡ n .offset + m .address))
   agree-crosswise = (
-    λ a. (a .0, displacement-crosswise .0 (sym (less (m .offset) (m .address)) ∙ a .1 ∙ less (n .offset) (n .address))),
-    λ h. (h .0, less (m .offset) (m .address) ∙ displacement-crosswise .1 (h .1) ∙ sym (less (n .offset) (n .address))),
+    λ a. (a .0, displacement-crosswise .0 (agree-displacement .0 a .1)),
+    λ h. agree-displacement .1 (h .0, displacement-crosswise .1 (h .1)),
+  )
+
+  pub agree-says : Says (agreeTests m n) (Agree m n)
+  agree-says = (
+    λ h. agree-displacement .1 (eqb→eq _ _ (h .0), eqZ-says (displacement m) (displacement n) .0 (h .1 .0)),
+    λ a. (eq→eqb _ _ (a .0), (eqZ-says (displacement m) (displacement n) .1 (agree-displacement .0 a .1), tt)),
   )

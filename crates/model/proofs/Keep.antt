@@ -3,21 +3,19 @@
 use mathlib.Core.Path.{_≡_, refl, sym, ap, subst, _∙_}
 use mathlib.Core.Logic.{_↔_}
 use mathlib.Core.Bool.{Bool, true, false}
-use mathlib.Core.List.{[], _∷_, List·Memᴰ·head, List·Memᴰ·tail, List·Memᴰ·not-nil}
+use mathlib.Core.List.{List·Memᴰ·head, List·Memᴰ·not-nil}
 use Prim.Native.Nat.{ℕ, zero, suc, _≤_}
 use native.Mathlib.Omega.{arith}
 use lib.Dec.{T, eqb→eq}
-use lib.ListN.{getD}
-use Rattle.model.specs.Prelude.{Mapping, Request, Operation}
+use Rattle.model.specs.Prelude.{Mapping, Request}
 use Rattle.model.specs.Rows.{choose}
 use Rattle.model.specs.Rules.{stop}
 use Rattle.model.specs.Cut.{lowerPart, upperPart, mappingOf, keepTests, keepMark, operationFor, operationOf}
-use Rattle.model.specs.Layout.{operationWords}
-use Rattle.model.specs.Exactly.{_∈_, Agree}
-use Rattle.model.specs.Grants.{Marked, Keep}
+use Rattle.model.specs.Exactly.{Agree}
+use Rattle.model.specs.Grants.{keepWord, Marked, Keep}
 use Rattle.model.proofs.Tests.{eq→eqb, all-facts, all-true}
 use Rattle.model.proofs.Agreement.{agree-says}
-use Rattle.model.proofs.Operations.{old-one, each-operation}
+use Rattle.model.proofs.Operations.{old-one, old-only, each-operation}
 
 abbrev pub Kept : Request → Mapping → Type 0
 Kept r m = (r .op ≡ 0) × Agree m (mappingOf r)
@@ -27,10 +25,6 @@ mark-kept r m = (
   λ e. let t = all-facts (keepTests r m) e in (eqb→eq _ _ (t .0), agree-says m (mappingOf r) .0 (t .1)),
   λ h. all-true (keepTests r m) (eq→eqb _ _ (h .0), agree-says m (mappingOf r) .1 (h .1)),
 )
-
--- the keep word of an operation
-abbrev pub keepWord : Operation → ℕ
-keepWord o = getD (operationWords o) 1 0
 
 word-is : (r : Request) (m : Mapping) → keepWord (operationOf r m) ≡ choose (keepMark r m) 1 0
 word-is r m = go (lowerPart (r .address) m .size) (upperPart (stop r) m .size)
@@ -52,12 +46,12 @@ word-kept r m = go (keepMark r m) refl
       λ k. absurd (subst T (sym (mark-kept r m .1 k) ∙ e) tt),
     )
 
-marked-operation : (r : Request) (m : Mapping) → Marked r (operationOf r m) (keepWord (operationOf r m))
+marked-operation : (r : Request) (m : Mapping) → Marked r (operationOf r m)
 marked-operation r m = (
   omega (arith, word-is r m, mark-most (keepMark r m)),
   (
     λ e. let k = word-kept r m .0 e in (m, rw (old-one r m) (List·Memᴰ·head refl), k .0, k .1),
-    λ h. word-kept r m .1 (here (h .0) (rw (old-one r m) at (h .1)) (h .2, h .3)),
+    λ h. word-kept r m .1 (subst (Kept r) (old-only r m (h .0) (h .1)) (h .2, h .3)),
   ),
 )
   where
@@ -65,10 +59,6 @@ marked-operation r m = (
     mark-most true = omega arith
     mark-most false = omega arith
 
-    here : (n : Mapping) → n ∈ (m ∷ []) → Kept r n → Kept r m
-    here n (List·Memᴰ·head p) k = subst (Kept r) p k
-    here n (List·Memᴰ·tail i) k = absurd (List·Memᴰ·not-nil i)
-
 pub keep-claim : Keep
-keep-claim r ms = each-operation (λ o. Marked r o (keepWord o)) r ms (λ m i. marked-operation r m)
+keep-claim r ms = each-operation (Marked r) r ms (λ m i. marked-operation r m)
     (λ n. (omega arith, (λ e. absurd (omega (arith, e)), λ h. absurd (List·Memᴰ·not-nil (h .1)))))

@@ -3,7 +3,7 @@
 -- Assumes nothing.
 use mathlib.Core.Path.{_≡_, sym, ap, ap₂, subst, _∙_}
 use mathlib.Core.Logic.{_⊎_, inl, inr, _↔_}
-use mathlib.Core.List.{[], _∷_, List·Memᴰ·head, List·Memᴰ·tail, List·Memᴰ·not-nil}
+use mathlib.Core.List.{List·Memᴰ·not-nil}
 use Prim.Native.Nat.{ℕ, _+_, _-_, _≤_, _<_}
 use native.Mathlib.Omega.{arith}
 use lib.ListN.{length}
@@ -14,14 +14,14 @@ use Rattle.model.specs.Table.{Table, mappings}
 use Rattle.model.specs.Cut.{mappingOf, hits, operationOf, old}
 use Rattle.model.specs.Calls.{asked, bind, tableAfter, lookup}
 use Rattle.model.specs.Exactly.{_∈_, TableRules}
-use Rattle.model.specs.Grants.{Effect, KeepShows}
+use Rattle.model.specs.Grants.{Effect, keepWord, KeepShows}
 use Rattle.model.proofs.Numbers.{order}
 use Rattle.model.proofs.Translate.{lookup-words}
 use Rattle.model.proofs.Table.{top, chain-rules}
 use Rattle.model.proofs.Hits.{hits-hit}
-use Rattle.model.proofs.Operations.{old-one, each-operation}
+use Rattle.model.proofs.Operations.{old-only, each-operation}
 use Rattle.model.proofs.Agreement.{agree-crosswise}
-use Rattle.model.proofs.Keep.{Kept, keepWord, word-kept}
+use Rattle.model.proofs.Keep.{Kept, word-kept}
 use Rattle.model.proofs.Ask.{Asked}
 use Rattle.model.proofs.Granted.{Good, Granting, granting, table-chain}
 use Rattle.model.proofs.Demand2.{lookup-good, demand-2}
@@ -78,15 +78,10 @@ keep-shows s t os q g e = each-operation (λ o. (m : Mapping) → m ∈ old o �
     Shows : Operation → Mapping → Type 0
     Shows o m = (x : ℕ) → m .address ≤ x → x < end m → r .address ≤ x → x < stop r → (keepWord o ≡ 1) ↔ (lookup s u x ≡ lookup s t x)
 
-    -- an operation has no old mapping but the one that is hit
     of-hit : (m : Mapping) → m ∈ hits r (mappings t) → (n : Mapping) → n ∈ old (operationOf r m) → Shows (operationOf r m) n
-    of-hit m i n j = go (rw (old-one r m) at j)
+    of-hit m i n j = subst (Shows (operationOf r m)) (sym (old-only r m n j)) shows
       where
         shows : Shows (operationOf r m) m
         shows x l k lo hi =
             let a = same s (length os) r t u (w .good) (w .may) (demand-2 s t os q g e) m (hits-hit r (mappings t) m i .0) x l k lo hi in
             (λ v. a .0 (word-kept r m .0 v), λ v. word-kept r m .1 (a .1 v))
-
-        go : n ∈ (m ∷ []) → Shows (operationOf r m) n
-        go (List·Memᴰ·head p) = subst (Shows (operationOf r m)) (sym p) shows
-        go (List·Memᴰ·tail h) = absurd (List·Memᴰ·not-nil h)

@@ -3,7 +3,7 @@
 use mathlib.Core.Path.{_≡_, refl, sym, ap, _∙_}
 use mathlib.Core.Logic.{_↔_}
 use mathlib.Core.Bool.{Bool}
-use mathlib.Core.List.{List, [], _∷_, _++_, map, flatMap, append-assoc, append-nil, List·Memᴰ·head, List·Memᴰ·tail}
+use mathlib.Core.List.{List, [], _∷_, _++_, map, flatMap, append-assoc, append-nil, List·Memᴰ·head, List·Memᴰ·tail, List·Memᴰ·not-nil}
 use Prim.Native.Nat.{ℕ, zero, suc, _+_, _*_, _≤_}
 use native.Mathlib.Omega.{arith}
 use lib.ListN.{length, length-append, length-map}
@@ -46,6 +46,14 @@ old-one r m = go (l .size) (u .size) _
     go zero (suc j) keep = refl
     go (suc i) zero keep = refl
     go (suc i) (suc j) keep = refl
+
+-- an operation has no other old mapping
+pub old-only : (r : Request) (m n : Mapping) → n ∈ old (operationOf r m) → n ≡ m
+old-only r m n i = go (rw (old-one r m) at i)
+  where
+    go : n ∈ (m ∷ []) → n ≡ m
+    go (List·Memᴰ·head e) = e
+    go (List·Memᴰ·tail j) = absurd (List·Memᴰ·not-nil j)
 
 pub olds : (r : Request) (ms : List Mapping) → flatMap old (operations r ms) ≡ hits r ms
 unfolding flatMap

@@ -1,6 +1,6 @@
 -- What a grant does: demand 2 in terms of the public calls, and the operations as a driver takes them.
 use Rattle.model.specs.Prelude.{_≡_, _⊎_, _↔_, Bool, Option, none, some, Option·map, Option·bind, List, [], _∷_, _++_, flatMap, ℕ, _+_, _-_, _*_, _≤_, _<_, leb, ltb, eqb, length, getD, drop, replicate, Space, Mapping, Request, Rests, Lower, Upper, Both, Operation, Map, Remap, Unmap, Nothing, Object, Grant}
-use Rattle.model.specs.Calls.{all, choose, answered, end, stop, Table, mappings, mappingOf, operations, restsOf, old, rests, operationWords, translate, Asking, asked, bind, tableAfter, lookup}
+use Rattle.model.specs.Calls.{all, choose, answered, end, stop, Table, mappings, operations, restsOf, old, rests, operationWords, translate, Asking, asked, bind, tableAfter, lookup}
 use Rattle.model.specs.Layout.{operationIn, listedOperation}
 use Rattle.model.specs.Exactly.{Each, _∈_, ShareByte, Ascends, TableRules, Agree, Pins}
 
@@ -88,20 +88,25 @@ abbrev pub Replay : Type 0
 Replay = (s : Space) (t : Table) (os : List ℕ) (q : Asking) (g : Grant) → bind s t os q .answer ≡ answered g
     → Replays (asked q) t (tableAfter t (bind s t os q)) (operations (asked q) (mappings t)) os (bind s t os q .operations) g
 
--- document 02: an operation's keep word is 1 exactly if the request is a map, and the old mapping agrees with the one
--- asked for in object and displacement; else 0
-abbrev pub Marked : Request → Operation → ℕ → Type 0
-Marked r o word = (word ≤ 1) × ((word ≡ 1) ↔ ((m : Mapping) × m ∈ old o × (r .op ≡ 0) × Agree m (mappingOf r)))
+-- an operation's second word
+abbrev pub keepWord : Operation → ℕ
+keepWord o = getD (operationWords o) 1 0
+
+-- document 02: the keep word is 1 exactly if the request is a map, and the old mapping agrees with the one asked for in
+-- object and displacement; else 0
+abbrev pub Marked : Request → Operation → Type 0
+Marked r o = (keepWord o ≤ 1) × ((keepWord o ≡ 1) ↔ ((m : Mapping) × m ∈ old o × (r .op ≡ 0)
+    × Agree m (record { address = r .address; size = r .size; object = r .object; offset = r .offset })))
 
 abbrev pub Keep : Type 0
-Keep = (r : Request) (ms : List Mapping) → Each (λ o. Marked r o (getD (operationWords o) 1 0)) (operations r ms)
+Keep = (r : Request) (ms : List Mapping) → Each (Marked r) (operations r ms)
 
 -- and what that means to a driver: a byte that the old mapping has inside the range shows after the grant what it
 -- showed before exactly if the word is 1, so that page entries can stay exactly there
 abbrev pub KeepShows : Type 0
 KeepShows = (s : Space) (t : Table) (os : List ℕ) (q : Asking) (g : Grant) → bind s t os q .answer ≡ answered g
     → Each (λ o. (m : Mapping) → m ∈ old o → (x : ℕ) → m .address ≤ x → x < end m → asked q .address ≤ x → x < stop (asked q)
-    → (getD (operationWords o) 1 0 ≡ 1) ↔ (lookup s (tableAfter t (bind s t os q)) x ≡ lookup s t x))
+    → (keepWord o ≡ 1) ↔ (lookup s (tableAfter t (bind s t os q)) x ≡ lookup s t x))
     (operations (asked q) (mappings t))
 
 -- document 01: an operation is 14 words: kind, keep, the old mapping (a map's new one), the lower rest, the upper rest;

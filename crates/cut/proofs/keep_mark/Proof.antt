@@ -1,6 +1,6 @@
 -- `cut::keep_mark` meets its contract.
 -- Assumes nothing.
-use Rattle.cut.proofs.Signed.{asked-bounded, keep-by}
+use Rattle.cut.proofs.Signed.{keep-by}
 use borrow.Author.Needs.{needs}
 use Rattle.cut.proofs.keep_mark.Statement.{statement}
 use Rattle.cut.proofs.keep_mark.Tie as tie
@@ -9,7 +9,7 @@ new-mapping-requires : tie.Need-new-mapping-requires
 new-mapping-requires c κs = search needs
 
 agree-requires : tie.Need-agree-requires
-agree-requires c κs = let start = c .before in asked-bounded (start .args .r) (start .args .m) (c .new-mapping .ensures) (start .pre)
+agree-requires c κs = let start = c .before in (start .pre .0, rw (c .new-mapping .ensures) (start .pre .1))
 
 returns : tie.Need-returns
 returns c =

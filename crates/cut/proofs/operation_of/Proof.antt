@@ -1,12 +1,13 @@
 -- `cut::operation_of` meets its contract.
 -- Assumes nothing.
 use Rattle.cut.proofs.Cases.{is-unmap, is-upper, is-lower, is-both}
+use Rattle.cut.proofs.Signed.{both-bounded}
 use borrow.Author.Needs.{needs}
 use Rattle.cut.proofs.operation_of.Statement.{statement}
 use Rattle.cut.proofs.operation_of.Tie as tie
 
 keep-mark-requires : tie.Need-keep-mark-requires
-keep-mark-requires c κs = search needs
+keep-mark-requires c κs = both-bounded (c .pre)
 
 lower-part-requires : tie.Need-lower-part-requires
 lower-part-requires c κs = search needs
