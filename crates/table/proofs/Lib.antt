@@ -1,6 +1,9 @@
 pub mod Between
+pub mod Digits
+pub mod Ends
 pub mod First
+pub mod Halving
+pub mod Looks
 pub mod Places
-pub mod Search
 pub mod Spliced
 pub mod Words

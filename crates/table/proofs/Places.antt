@@ -11,9 +11,10 @@ use Rattle.model.specs.declared.Mapping.{Mapping}
 use Rattle.model.specs.declared.Space.{Space}
 use Rattle.model.specs.Rules.{limit, end}
 use Rattle.model.specs.Table.{mappingsIn}
+use Rattle.model.specs.Exactly.{Ascends}
 use Rattle.model.proofs.Store.{length-mappings}
 use Rattle.model.proofs.Chain.{Fit, Chain}
-use Rattle.model.proofs.Table.{top, good-chain}
+use Rattle.model.proofs.Table.{top, good-chain, chain-rules}
 use Rattle.table.specs.Places.{mappingAt, Valid}
 
 -- a place of the words behind the first mapping
@@ -57,6 +58,9 @@ chain-at s from to (m ∷ ms) (suc i) d c h = chain-at s (end m) to ms i d (c .1
 module _ {ws : List ℕ} {n : ℕ} (v : Valid ws n) where
   pub valid-chain : Chain (v .space) 0 (top (v .space)) (mappingsIn n ws)
   valid-chain = good-chain (v .space) (mappingsIn n ws) (v .kept ∙ sym (length-mappings n ws))
+
+  pub valid-ascends : Ascends (mappingsIn n ws)
+  valid-ascends = chain-rules (v .space) 0 (top (v .space)) (mappingsIn n ws) valid-chain .1
 
   -- no sum of a mapping in it is large
   pub valid-at : {m : Mapping} (i : ℕ) → i < n → m ≡ mappingAt ws i → (end m ≤ limit) × (m .offset + m .size ≤ limit)

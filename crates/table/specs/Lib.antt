@@ -1,2 +1,3 @@
+pub mod Halving
 pub mod Places
 pub mod Splice

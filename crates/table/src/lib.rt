@@ -9,6 +9,7 @@ ghost use Rattle.model.specs.Rules.{limit};
 ghost use Rattle.model.specs.Table.{mappingFrom, mappingsIn, wordsOf, written};
 ghost use Rattle.model.specs.Cut.{prepend, translate};
 ghost use Rattle.words.specs.Words.{stored};
+ghost use Rattle.table.specs.Halving.{middle, halved, halving, Halvable};
 ghost use Rattle.table.specs.Places.{mappingAt, firstWhere, startsBehind, endsBehind, Valid};
 ghost use Rattle.table.specs.Splice.{mappingsOf, spliced, Splice};
 
@@ -18,6 +19,13 @@ pub enum Replacement {
     One(Mapping),
     Two(Mapping, Mapping),
     Three(Mapping, Mapping, Mapping),
+}
+
+// A search for the first mapping that ends behind a byte address: its place is from `lo` to `hi`, after `looks` looks at one mapping each.
+pub struct Search {
+    lo: usize,
+    hi: usize,
+    looks: usize,
 }
 
 // The mapping in the four words from word `at` on.
@@ -66,23 +74,56 @@ pub fn first_starting_behind(t: &[u64], from: usize, count: usize, x: u64) -> us
     i
 }
 
-// The place of the first mapping that ends behind the byte address `x`; `count` where none does. Ends ascend, so each turn halves what is left.
+// The place in the middle of what is left: where the next look goes.
+fn middle(s: Search) -> usize
+    requires { ⌜ s .lo ≤ s .hi ⌝ }
+    ensures { λ i. ⌜ i ≡ middle s ⌝ }
+{
+    s.lo + (s.hi - s.lo) / 2
+}
+
+// What a look at the mapping in the middle leaves of the search for `x`. The table is not lent here: that mapping alone decides, and it is counted.
+fn halved(s: Search, m: Mapping, x: u64) -> Search
+    requires { ⌜ Halvable s m ⌝ }
+    ensures { λ r. ⌜ r ≡ halved x m s ⌝ }
+{
+    let looks = s.looks + 1;
+    if x < m.address + m.size {
+        return Search {
+            lo: s.lo,
+            hi: middle(s),
+            looks: looks,
+        };
+    }
+    Search {
+        lo: middle(s) + 1,
+        hi: s.hi,
+        looks: looks,
+    }
+}
+
+// The search for `x` by halves, which may be used since ends ascend: no more looks than `count` has binary digits.
+fn halve(t: &[u64], count: usize, x: u64) -> Search
+    requires { ⌜ Valid (now t) count ⌝ }
+    ensures { λ s. ⌜ s ≡ halving (mappingsIn count (now (t .entry))) x ⌝ }
+{
+    let mut s = Search {
+        lo: 0,
+        hi: count,
+        looks: 0,
+    };
+    while s.lo < s.hi {
+        s = halved(s, read_mapping(t, middle(s)), x);
+    }
+    s
+}
+
+// The place of the first mapping that ends behind the byte address `x`; `count` where none does.
 pub fn first_ending_behind(t: &[u64], count: usize, x: u64) -> usize
     requires { ⌜ Valid (now t) count ⌝ }
     ensures { λ i. ⌜ i ≡ firstWhere (endsBehind x) (mappingsIn count (now (t .entry))) ⌝ }
 {
-    let mut lo: usize = 0;
-    let mut hi = count;
-    while lo < hi {
-        let mid = lo + (hi - lo) / 2;
-        let m = read_mapping(t, mid);
-        if x < m.address + m.size {
-            hi = mid;
-        } else {
-            lo = mid + 1;
-        }
-    }
-    lo
+    halve(t, count, x).lo
 }
 
 // What the byte address `x` shows by one mapping.

@@ -3,7 +3,7 @@
 use mathlib.Core.Path.{_∙_}
 use native.Mathlib.Omega.{arith}
 use Rattle.table.proofs.Places.{valid-at}
-use Rattle.table.proofs.Search.{search-most, search-none, search-found}
+use Rattle.table.proofs.Looks.{first-place, none-shows, found-shows}
 use borrow.Author.Needs.{needs}
 use Rattle.table.proofs.translate.Statement.{statement}
 use Rattle.table.proofs.translate.Tie as tie
@@ -15,17 +15,17 @@ returns : tie.Need-returns
 returns c =
     let found = c .before in
     let start = found .before .before in
-    search-none (start .pre) (start .args .x) (found .first-ending-behind .ensures) (c .if1 .taken)
+    none-shows (start .pre) (start .args .x) (found .first-ending-behind .ensures) (c .if1 .taken)
 
 read-mapping-requires : tie.Need-read-mapping-requires
 read-mapping-requires c κs =
     let start = c .before .before .before in
-    omega (arith, start .pre .held, search-most (start .pre) (start .args .x))
+    omega (arith, start .pre .held, first-place (start .pre) (start .args .x))
 
 shown-by-requires : tie.Need-shown-by-requires
 shown-by-requires c κs =
     let start = c .before .before .before .before in
-    let p = search-most (start .pre) (start .args .x) in
+    let p = first-place (start .pre) (start .args .x) in
     valid-at (start .pre) _ (omega arith) (c .read-mapping .ensures) .1
 
 returns-2 : tie.Need-returns-2
@@ -33,8 +33,8 @@ returns-2 c =
     let read = c .before in
     let found = read .before .before in
     let start = found .before .before in
-    let p = search-most (start .pre) (start .args .x) in
-    c .shown-by .ensures ∙ search-found (start .pre) (start .args .x) _ (found .first-ending-behind .ensures) (omega arith) (read .read-mapping .ensures)
+    let p = first-place (start .pre) (start .args .x) in
+    c .shown-by .ensures ∙ found-shows (start .pre) (start .args .x) _ (found .first-ending-behind .ensures) (omega arith) (read .read-mapping .ensures)
 
 pub translate-spec : {M : Type 1} → statement M
 translate-spec =

@@ -1,0 +1,67 @@
+-- Mappings in order: the first one that ends behind a byte address, and why no other can have the byte.
+-- Assumes nothing.
+use mathlib.Core.Path.{_≡_, refl, sym, _∙_}
+use mathlib.Core.Bool.{Bool, true, false}
+use mathlib.Core.List.{List, [], _∷_}
+use Prim.Native.Nat.{ℕ, zero, suc, _≤_, _<_}
+use native.Mathlib.Omega.{arith}
+use lib.ListN.{length, getD, take, drop}
+use borrow.Author.Tests.{le-ltb, ltb-true, ltb-false}
+use Rattle.model.specs.declared.Mapping.{Mapping}
+use Rattle.model.specs.declared.Shown.the-variants.{Nothing}
+use Rattle.model.specs.Rows.{choose}
+use Rattle.model.specs.Rules.{end}
+use Rattle.model.specs.Cut.{translate}
+use Rattle.model.specs.Exactly.{Each, Ascends}
+use Rattle.model.proofs.Actions.{each-map}
+use Rattle.model.proofs.Translate.{translate-past}
+use Rattle.table.specs.Places.{firstWhere, endsBehind}
+use Rattle.table.proofs.First.{first-before}
+
+each-at : (P : Mapping → Type 0) (ms : List Mapping) (i : ℕ) (d : Mapping) → Each P ms → i < length ms → P (getD ms i d)
+each-at P [] i d h l = absurd (omega arith)
+each-at P (m ∷ ms) zero d h l = h .0
+each-at P (m ∷ ms) (suc i) d h l = each-at P ms i d (h .1) (omega arith)
+
+-- ends ascend: where one ends at or before x, the first that ends behind x stands behind it
+pub ends-ascend : (ms : List Mapping) (x i : ℕ) (d : Mapping) → Ascends ms → i < length ms → end (getD ms i d) ≤ x → i < firstWhere (endsBehind x) ms
+unfolding firstWhere
+ends-ascend [] x i d a h k = absurd (omega arith)
+ends-ascend (m ∷ ms) x zero d a h k = rw (le-ltb x (end m) k, choose) (omega arith)
+ends-ascend (m ∷ ms) x (suc i) d a h k =
+    let b = each-at (λ n. end m ≤ n .address) ms i d (a .0) (omega arith) in
+    rw (le-ltb x (end m) (omega (arith, b)), choose) (omega (arith, ends-ascend ms x i d (a .1) (omega arith) k))
+
+pub ends-before : (ms : List Mapping) (x : ℕ) → Each (λ m. end m ≤ x) (take (firstWhere (endsBehind x) ms) ms)
+ends-before ms x =
+    each-map (λ m. endsBehind x m ≡ false) (λ m. end m ≤ x) (take (firstWhere (endsBehind x) ms) ms) (λ m e. ltb-false x (end m) e) (first-before (endsBehind x) ms)
+
+module _ (x : ℕ) where
+  -- the first one, and all behind it
+  pub ends-behind : (ms : List Mapping) → Ascends ms → Each (λ m. x < end m) (drop (firstWhere (endsBehind x) ms) ms)
+  unfolding firstWhere
+  ends-behind [] a = tt
+  ends-behind (m ∷ ms) a = go (endsBehind x m) refl (ends-behind ms (a .1))
+    where
+      go : (b : Bool) → endsBehind x m ≡ b → Each (λ m. x < end m) (drop (firstWhere (endsBehind x) ms) ms)
+          → Each (λ m. x < end m) (drop (choose b 0 (suc (firstWhere (endsBehind x) ms))) (m ∷ ms))
+      go true q ih =
+          let h = ltb-true x (end m) q in
+          (h, each-map (λ n. end m ≤ n .address) (λ n. x < end n) ms (λ n l. omega arith) (a .0))
+      go false q ih = ih
+
+  none-from : (y : ℕ) (ms : List Mapping) → Each (λ m. y ≤ m .address) ms → x < y → translate ms x ≡ Nothing
+  unfolding translate
+  none-from y [] a h = refl
+  none-from y (m ∷ ms) a h = translate-past m ms x (λ i. omega arith) ∙ none-from y ms (a .1) h
+
+  -- those before the first that ends behind x end too early, and those behind it start too late
+  pub first-shows : (ms : List Mapping) → Ascends ms → translate (take 1 (drop (firstWhere (endsBehind x) ms) ms)) x ≡ translate ms x
+  unfolding firstWhere translate
+  first-shows [] a = refl
+  first-shows (m ∷ ms) a = go (endsBehind x m) refl (first-shows ms (a .1))
+    where
+      go : (b : Bool) → endsBehind x m ≡ b → translate (take 1 (drop (firstWhere (endsBehind x) ms) ms)) x ≡ translate ms x
+          → translate (take 1 (drop (choose b 0 (suc (firstWhere (endsBehind x) ms))) (m ∷ ms))) x ≡ translate (m ∷ ms) x
+      go true q ih = rw (none-from (end m) ms (a .0) (ltb-true x (end m) q))
+      go false q ih = let h = ltb-false x (end m) q in ih ∙ sym (translate-past m ms x (λ i. omega arith))

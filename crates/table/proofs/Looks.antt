@@ -1,0 +1,66 @@
+-- The search by halves in the words of a table that passed its check, and what the place that it finds is good for.
+-- Assumes nothing.
+use mathlib.Core.Path.{_≡_, refl, sym, ap, subst, _∙_}
+use mathlib.Core.List.{List, [], _∷_}
+use Prim.Native.Nat.{ℕ, _+_, _-_, _^_, _≤_, _<_}
+use native.Mathlib.Omega.{arith}
+use lib.ListN.{length, take, drop}
+use Rattle.model.specs.declared.Mapping.{Mapping}
+use Rattle.model.specs.declared.Shown.the-variants.{Nothing}
+use Rattle.model.specs.Table.{mappingsIn}
+use Rattle.model.specs.Cut.{translate}
+use Rattle.model.proofs.Store.{length-mappings}
+use Rattle.table.specs.declared.Search.{Search}
+use Rattle.table.specs.Places.{mappingAt, firstWhere, endsBehind, Valid}
+use Rattle.table.specs.Halving.{binaryDigits, whole, middle, halved, at, halving, Halvable}
+use Rattle.table.proofs.Places.{at-place, from-place, from-end, valid-ascends, valid-at}
+use Rattle.table.proofs.First.{first-most}
+use Rattle.table.proofs.Ends.{first-shows}
+use Rattle.table.proofs.Digits.{binary-digits}
+use Rattle.table.proofs.Halving.{found, Left, left-start, left-end, left-some, left-next}
+
+module _ {ws : List ℕ} {n : ℕ} (v : Valid ws n) (x : ℕ) where
+  abbrev ms : List Mapping
+  ms = mappingsIn n ws
+
+  abbrev first : ℕ
+  first = firstWhere (endsBehind x) ms
+
+  pub first-place : first ≤ n
+  first-place = omega (arith, first-most (endsBehind x) ms, length-mappings n ws)
+
+  -- ── the loop ──
+
+  pub looks-start : Left ms x (whole n)
+  looks-start = subst (λ (k : ℕ). Left ms x (whole k)) (length-mappings n ws) (left-start ms x)
+
+  module _ {s : Search} (g : Left ms x s) (h : s .lo < s .hi) where
+    pub looks-place : middle s < n
+    looks-place = omega (arith, g .within .most, length-mappings n ws)
+
+    module _ {m : Mapping} (e : m ≡ mappingAt ws (middle s)) where
+      looked : at ms (middle s) ≡ m
+      looked = at-place n ws (middle s) _ looks-place ∙ sym e
+
+      pub looks-halvable : n < 2 ^ 64 → Halvable s m
+      looks-halvable l =
+          let d : binaryDigits (length ms) ≤ 64 = binary-digits (length ms) 64 .1 (rw (length-mappings n ws) l) in
+          record { left = h; few = omega (arith, left-some ms x g h); end-most = valid-at v (middle s) looks-place e .0 }
+
+      pub looks-next : {r : Search} → r ≡ halved x m s → Left ms x r
+      looks-next {r} q = subst (Left ms x) (ap (λ (k : Mapping). halved x k s) looked ∙ sym q) (left-next ms x g h (valid-ascends v))
+
+  -- ── its place ──
+
+  pub place-is : {s : Search} → s ≡ halving ms x → s .lo ≡ first
+  place-is e = ap (λ (s : Search). s .lo) e ∙ found ms x (valid-ascends v) .first
+
+  shows : (i : ℕ) → i ≡ first → translate (take 1 (drop i ms)) x ≡ translate ms x
+  shows i e = rw e (first-shows x ms (valid-ascends v))
+
+  pub none-shows : {i : ℕ} → i ≡ first → i ≡ n → Nothing ≡ translate ms x
+  unfolding translate
+  none-shows {i} e q = rw (from-end ws n i q) at (shows i e)
+
+  pub found-shows : {m : Mapping} (i : ℕ) → i ≡ first → i < n → m ≡ mappingAt ws i → translate (m ∷ []) x ≡ translate ms x
+  found-shows {m} i e h r = rw (from-place ws n i m h r) at (shows i e)

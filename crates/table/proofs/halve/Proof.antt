@@ -1,0 +1,71 @@
+-- `table::halve` meets its contract: the looks so far, and the steps that are left, are those of the search.
+-- Assumes nothing.
+use mathlib.Core.Path.{ap, _∙_}
+use Prim.Native.Nat.{_-_}
+use native.Mathlib.Omega.{arith}
+use Rattle.model.specs.Table.{mappingsIn}
+use Rattle.table.specs.Places.{mappingAt}
+use Rattle.table.specs.Halving.{binaryDigits}
+use Rattle.table.proofs.Halving.{halved-less, Left, left-end}
+use Rattle.table.proofs.Looks.{looks-start, looks-place, looks-halvable, looks-next}
+use borrow.Author.Needs.{needs}
+use Rattle.table.proofs.halve.Statement.{statement}
+use Rattle.table.proofs.halve.Tie as tie
+
+abbrev Inv-loop : tie.InvT-loop
+Inv-loop t count x s₀ s = Left (mappingsIn count t) x s
+
+abbrev μ-loop : tie.MeasureT-loop
+μ-loop t count x s₀ s = binaryDigits (s .hi - s .lo)
+
+loop-holds : tie.Need-loop-holds Inv-loop μ-loop
+loop-holds c = looks-start (c .before .pre) (c .before .args .x)
+
+middle-requires : tie.Need-middle-requires Inv-loop μ-loop
+middle-requires c κs = search needs
+
+read-mapping-requires : tie.Need-read-mapping-requires Inv-loop μ-loop
+read-mapping-requires c κs =
+    let loop = c .before .before .before in
+    let start = loop .before .before in
+    omega (arith, start .pre .held, c .middle .ensures, looks-place (start .pre) (start .args .x) (loop .loop .inv) (c .before .if1 .taken))
+
+halved-requires : tie.Need-halved-requires Inv-loop μ-loop
+halved-requires c κs =
+    let loop = c .before .before .before .before in
+    let start = loop .before .before in
+    looks-halvable (start .pre) (start .args .x) (loop .loop .inv) (c .before .before .if1 .taken)
+    (c .read-mapping .ensures ∙ ap (mappingAt (start .args .t .now)) (c .before .middle .ensures)) (omega arith)
+
+loop-less : tie.Need-loop-less Inv-loop μ-loop
+loop-less c =
+    let loop = c .before .before .before .before .before in
+    rw (c .halved .ensures) (halved-less (loop .before .before .args .x) _ (loop .loop .s) (c .before .before .before .if1 .taken))
+
+loop-again : tie.Need-loop-again Inv-loop μ-loop
+loop-again c =
+    let read = c .before in
+    let loop = read .before .before .before .before in
+    let start = loop .before .before in
+    looks-next (start .pre) (start .args .x) (loop .loop .inv) (read .before .before .if1 .taken)
+    (read .read-mapping .ensures ∙ ap (mappingAt (start .args .t .now)) (read .before .middle .ensures)) (c .halved .ensures)
+
+returns : tie.Need-returns Inv-loop μ-loop
+returns c =
+    let loop = c .before .before in
+    let a = loop .before .before .args in
+    left-end (mappingsIn (a .count) (a .t .now)) (a .x) (loop .loop .inv) (c .if1 .left)
+
+pub halve-spec : {M : Type 1} → statement M
+halve-spec =
+    tie.close
+    (tie.spec
+    Inv-loop
+    μ-loop
+    loop-holds
+    middle-requires
+    read-mapping-requires
+    halved-requires
+    loop-less
+    loop-again
+    returns)

@@ -1,0 +1,84 @@
+-- Document 02, Item 3: the search by halves, as steps, and what is claimed of it.
+-- Assumes nothing.
+use mathlib.Core.Path.{_≡_}
+use mathlib.Core.Logic.{_↔_}
+use mathlib.Core.List.{List}
+use Prim.Native.Nat.{ℕ, zero, suc, _+_, _-_, _/_, _^_, _≤_, _<_}
+use lib.Dec.{ltb}
+use lib.ListN.{length, getD, take, drop}
+use Rattle.model.specs.declared.Mapping.{Mapping}
+use Rattle.model.specs.Rows.{choose}
+use Rattle.model.specs.Rules.{limit, end}
+use Rattle.model.specs.Cut.{translate}
+use Rattle.model.specs.Exactly.{Each, Ascends}
+use Rattle.table.specs.declared.Search.{Search}
+use Rattle.table.specs.Places.{firstWhere, endsBehind}
+
+-- how many binary digits n has: none if it is 0, else one and those of its half (k is at least their number)
+unfoldable pub digitsIn : ℕ → ℕ → ℕ
+digitsIn zero n = 0
+digitsIn (suc k) zero = 0
+digitsIn (suc k) (suc n) = suc (digitsIn k (suc n / 2))
+
+unfoldable pub binaryDigits : ℕ → ℕ
+binaryDigits n = digitsIn n n
+
+-- ── the search ──
+
+-- before the first step all n places are left
+abbrev pub whole : ℕ → Search
+whole n = record { lo = 0; hi = n; looks = 0 }
+
+abbrev pub middle : Search → ℕ
+middle s = s .lo + (s .hi - s .lo) / 2
+
+-- what a look at the mapping in the middle leaves: the places before it if it ends behind x, else those after it
+unfoldable pub halved : ℕ → Mapping → Search → Search
+halved x m s = choose (endsBehind x m)
+    (record { lo = s .lo; hi = middle s; looks = s .looks + 1 })
+    (record { lo = middle s + 1; hi = s .hi; looks = s .looks + 1 })
+
+-- the mapping at a place; only where there is one is it looked at
+abbrev pub at : List Mapping → ℕ → Mapping
+at ms i = getD ms i (record { address = 0; size = 0; object = 0; offset = 0 })
+
+-- one step: a look, unless nothing is left
+unfoldable pub step : List Mapping → ℕ → Search → Search
+step ms x s = choose (ltb (s .lo) (s .hi)) (halved x (at ms (middle s)) s) s
+
+unfoldable pub steps : ℕ → List Mapping → ℕ → Search → Search
+steps zero ms x s = s
+steps (suc k) ms x s = steps k ms x (step ms x s)
+
+-- as many steps as the number of mappings has binary digits
+unfoldable pub halving : List Mapping → ℕ → Search
+halving ms x = steps (binaryDigits (length ms)) ms x (whole (length ms))
+
+-- what the code that halves asks: something is left, and no sum is large (a number of 64 bits has no more digits)
+pub record Halvable (s : Search) (m : Mapping) : Type 0 where
+  pub left : s .lo < s .hi
+  pub few : s .looks < 64
+  pub end-most : end m ≤ limit
+
+-- ── what is claimed ──
+
+-- d binary digits are enough exactly for the numbers below 2^d
+abbrev pub BinaryDigits : Type 0
+BinaryDigits = (n d : ℕ) → (binaryDigits n ≤ d) ↔ (n < 2 ^ d)
+
+-- nothing is left, within that many looks; the place is that of the first mapping that ends behind x, and it alone
+-- decides what x shows
+pub record Found (ms : List Mapping) (x : ℕ) (s : Search) : Type 0 where
+  pub ended : s .lo ≡ s .hi
+  pub within : s .looks ≤ binaryDigits (length ms)
+  pub first : s .lo ≡ firstWhere (endsBehind x) ms
+  pub before : Each (λ m. end m ≤ x) (take (s .lo) ms)
+  pub behind : Each (λ m. x < end m) (drop (s .lo) ms)
+  pub shows : translate (take 1 (drop (s .lo) ms)) x ≡ translate ms x
+
+-- each step looks at one mapping: no other has a say in it; it counts the look, and leaves at most half
+pub record Halving : Type 0 where
+  pub one-mapping : (ms ns : List Mapping) (x : ℕ) (s : Search) → at ms (middle s) ≡ at ns (middle s) → step ms x s ≡ step ns x s
+  pub one-look : (ms : List Mapping) (x : ℕ) (s : Search) → s .lo < s .hi → step ms x s .looks ≡ s .looks + 1
+  pub half-left : (ms : List Mapping) (x : ℕ) (s : Search) → step ms x s .hi - step ms x s .lo ≤ (s .hi - s .lo) / 2
+  pub finds : (ms : List Mapping) (x : ℕ) → Ascends ms → Found ms x (halving ms x)
