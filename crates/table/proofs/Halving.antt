@@ -17,7 +17,7 @@ use Rattle.model.proofs.Numbers.{order}
 use Rattle.model.proofs.Store.{length-mappings}
 use Rattle.table.specs.declared.Search.{Search}
 use Rattle.table.specs.Places.{mappingAt, firstWhere, endsBehind, Valid}
-use Rattle.table.specs.Halving.{digitsIn, binaryDigits, whole, middle, halved, at, step, steps, halving, Found, Halving}
+use Rattle.table.specs.Halving.{digitsIn, binaryDigits, whole, middle, halved, at, step, steps, halving, Finds, Halving}
 use Rattle.table.proofs.Places.{at-place, valid-ascends}
 use Rattle.table.proofs.First.{first-most, first-least}
 use Rattle.table.proofs.Ends.{ends-ascend, ends-before, ends-behind, first-shows}
@@ -145,8 +145,8 @@ module _ (ms : List Mapping) (x : ℕ) where
       (ends a k (halved x (at ms (middle s)) s) (halved-within a s h w) (omega (arith, halved-less x (at ms (middle s)) s h))))
       (order (s .hi) (s .lo))
 
-  found-there : Ascends ms → (s : Search) → Ended s → Found ms x s
-  found-there a s e =
+  finds-there : Ascends ms → (s : Search) → Ended s → Finds ms x s
+  finds-there a s e =
       let i : s .lo ≡ first = omega (arith, e .0 .low, e .0 .high, e .1) in
       record {
         ended = omega (arith, e .0 .low, e .0 .high, e .1);
@@ -157,12 +157,12 @@ module _ (ms : List Mapping) (x : ℕ) where
         shows = rw i (first-shows x ms a);
       }
 
-  pub found : Ascends ms → Found ms x (halving ms x)
+  pub finds : Ascends ms → Finds ms x (halving ms x)
   unfolding halving
-  found a = found-there a _ (ends a (binaryDigits (length ms)) (whole (length ms)) whole-within (omega (arith, whole-within .digits)))
+  finds a = finds-there a _ (ends a (binaryDigits (length ms)) (whole (length ms)) whole-within (omega (arith, whole-within .digits)))
 
 pub halving-finds : Halving
-halving-finds = record { one-mapping = one-mapping; one-look = one-look; half-left = half-left; finds = found }
+halving-finds = record { one-mapping = one-mapping; one-look = one-look; half-left = half-left; finds = finds }
 
 -- ── look by look, as a loop goes ──
 

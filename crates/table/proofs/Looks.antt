@@ -17,7 +17,7 @@ use Rattle.table.proofs.Places.{at-place, from-place, from-end, valid-a
 use Rattle.table.proofs.First.{first-most}
 use Rattle.table.proofs.Ends.{first-shows}
 use Rattle.table.proofs.Digits.{binary-digits}
-use Rattle.table.proofs.Halving.{found, Left, left-start, left-end, left-some, left-next}
+use Rattle.table.proofs.Halving.{finds, Left, left-start, left-end, left-some, left-next}
 
 module _ {ws : List ℕ} {n : ℕ} (v : Valid ws n) (x : ℕ) where
   abbrev ms : List Mapping
@@ -53,7 +53,7 @@ module _ {ws : List ℕ} {n : ℕ} (v : Valid ws n) (x : ℕ) where
   -- ── its place ──
 
   pub place-is : {s : Search} → s ≡ halving ms x → s .lo ≡ first
-  place-is e = ap (λ (s : Search). s .lo) e ∙ found ms x (valid-ascends v) .first
+  place-is e = ap (λ (s : Search). s .lo) e ∙ finds ms x (valid-ascends v) .first
 
   shows : (i : ℕ) → i ≡ first → translate (take 1 (drop i ms)) x ≡ translate ms x
   shows i e = rw e (first-shows x ms (valid-ascends v))

@@ -68,7 +68,7 @@ BinaryDigits = (n d : ℕ) → (binaryDigits n ≤ d) ↔ (n < 2 ^ d)
 
 -- nothing is left, within that many looks; the place is that of the first mapping that ends behind x, and it alone
 -- decides what x shows
-pub record Found (ms : List Mapping) (x : ℕ) (s : Search) : Type 0 where
+pub record Finds (ms : List Mapping) (x : ℕ) (s : Search) : Type 0 where
   pub ended : s .lo ≡ s .hi
   pub within : s .looks ≤ binaryDigits (length ms)
   pub first : s .lo ≡ firstWhere (endsBehind x) ms
@@ -81,4 +81,4 @@ pub record Halving : Type 0 where
   pub one-mapping : (ms ns : List Mapping) (x : ℕ) (s : Search) → at ms (middle s) ≡ at ns (middle s) → step ms x s ≡ step ns x s
   pub one-look : (ms : List Mapping) (x : ℕ) (s : Search) → s .lo < s .hi → step ms x s .looks ≡ s .looks + 1
   pub half-left : (ms : List Mapping) (x : ℕ) (s : Search) → step ms x s .hi - step ms x s .lo ≤ (s .hi - s .lo) / 2
-  pub finds : (ms : List Mapping) (x : ℕ) → Ascends ms → Found ms x (halving ms x)
+  pub finds : (ms : List Mapping) (x : ℕ) → Ascends ms → Finds ms x (halving ms x)

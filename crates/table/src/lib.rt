@@ -22,7 +22,7 @@ pub enum Replacement {
 }
 
 // A search for the first mapping that ends behind a byte address: its place is from `lo` to `hi`, after `looks` looks at one mapping each.
-pub struct Search {
+struct Search {
     lo: usize,
     hi: usize,
     looks: usize,
