@@ -1,7 +1,7 @@
 -- The search by halves: worked cases, the claim, and how a loop over the words keeps step with it.
 -- Assumes nothing.
 use mathlib.Core.Path.{_≡_, refl, sym, ap, subst, _∙_}
-use mathlib.Core.Logic.{_⊎_, inl, inr, ⊎-elim}
+use mathlib.Core.Logic.{⊎-elim}
 use mathlib.Core.List.{List, [], _∷_, map}
 use Prim.Native.Nat.{ℕ, zero, suc, _+_, _-_, _/_, _≤_, _<_}
 use native.Mathlib.Omega.{arith}
@@ -11,17 +11,14 @@ use borrow.Author.Tests.{lt-ltb, le-ltb}
 use Rattle.model.specs.declared.Mapping.{Mapping}
 use Rattle.model.specs.Rows.{choose}
 use Rattle.model.specs.Rules.{end}
-use Rattle.model.specs.Table.{mappingsIn}
 use Rattle.model.specs.Exactly.{Ascends}
 use Rattle.model.proofs.Numbers.{order}
-use Rattle.model.proofs.Store.{length-mappings}
 use Rattle.table.specs.declared.Search.{Search}
-use Rattle.table.specs.Places.{mappingAt, firstWhere, endsBehind, Valid}
+use Rattle.table.specs.Places.{firstWhere, endsBehind}
 use Rattle.table.specs.Halving.{digitsIn, binaryDigits, whole, middle, halved, at, step, steps, halving, Finds, Halving}
-use Rattle.table.proofs.Places.{at-place, valid-ascends}
 use Rattle.table.proofs.First.{first-most, first-least}
 use Rattle.table.proofs.Ends.{ends-ascend, ends-before, ends-behind, first-shows}
-use Rattle.table.proofs.Digits.{binary-digits, digits-less, digits-none}
+use Rattle.table.proofs.Digits.{digits-less, digits-none}
 
 -- ── worked cases ──
 

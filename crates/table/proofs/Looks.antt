@@ -1,8 +1,8 @@
 -- The search by halves in the words of a table that passed its check, and what the place that it finds is good for.
 -- Assumes nothing.
-use mathlib.Core.Path.{_≡_, refl, sym, ap, subst, _∙_}
+use mathlib.Core.Path.{_≡_, sym, ap, subst, _∙_}
 use mathlib.Core.List.{List, [], _∷_}
-use Prim.Native.Nat.{ℕ, _+_, _-_, _^_, _≤_, _<_}
+use Prim.Native.Nat.{ℕ, _^_, _≤_, _<_}
 use native.Mathlib.Omega.{arith}
 use lib.ListN.{length, take, drop}
 use Rattle.model.specs.declared.Mapping.{Mapping}
@@ -34,21 +34,26 @@ module _ {ws : List ℕ} {n : ℕ} (v : Valid ws n) (x : ℕ) where
   pub looks-start : Left ms x (whole n)
   looks-start = subst (λ (k : ℕ). Left ms x (whole k)) (length-mappings n ws) (left-start ms x)
 
-  module _ {s : Search} (g : Left ms x s) (h : s .lo < s .hi) where
-    pub looks-place : middle s < n
-    looks-place = omega (arith, g .within .most, length-mappings n ws)
+  module _ {s : Search} (g : Left ms x s) where
+    pub looks-place : s .lo < s .hi → middle s < n
+    looks-place h = omega (arith, g .within .most, length-mappings n ws)
 
-    module _ {m : Mapping} (e : m ≡ mappingAt ws (middle s)) where
+    module _ (h : s .lo < s .hi) {m : Mapping} (e : m ≡ mappingAt ws (middle s)) where
       looked : at ms (middle s) ≡ m
-      looked = at-place n ws (middle s) _ looks-place ∙ sym e
+      looked = at-place n ws (middle s) _ (looks-place h) ∙ sym e
 
       pub looks-halvable : n < 2 ^ 64 → Halvable s m
       looks-halvable l =
           let d : binaryDigits (length ms) ≤ 64 = binary-digits (length ms) 64 .1 (rw (length-mappings n ws) l) in
-          record { left = h; few = omega (arith, left-some ms x g h); end-most = valid-at v (middle s) looks-place e .0 }
+          record { left = h; few = omega (arith, left-some ms x g h); end-most = valid-at v (middle s) (looks-place h) e .0 }
 
       pub looks-next : {r : Search} → r ≡ halved x m s → Left ms x r
       looks-next {r} q = subst (Left ms x) (ap (λ (k : Mapping). halved x k s) looked ∙ sym q) (left-next ms x g h (valid-ascends v))
+
+    pub looks-end : s .hi ≤ s .lo → (s ≡ halving ms x) × (s .looks ≤ binaryDigits n)
+    looks-end h =
+        let d : binaryDigits (length ms) ≡ binaryDigits n = ap binaryDigits (length-mappings n ws) in
+        (left-end ms x g h, omega (arith, g .within .digits))
 
   -- ── its place ──
 

@@ -9,7 +9,7 @@ ghost use Rattle.model.specs.Rules.{limit};
 ghost use Rattle.model.specs.Table.{mappingFrom, mappingsIn, wordsOf, written};
 ghost use Rattle.model.specs.Cut.{prepend, translate};
 ghost use Rattle.words.specs.Words.{stored};
-ghost use Rattle.table.specs.Halving.{middle, halved, halving, Halvable};
+ghost use Rattle.table.specs.Halving.{binaryDigits, middle, halved, halving, Halvable};
 ghost use Rattle.table.specs.Places.{mappingAt, firstWhere, startsBehind, endsBehind, Valid};
 ghost use Rattle.table.specs.Splice.{mappingsOf, spliced, Splice};
 
@@ -105,7 +105,7 @@ fn halved(s: Search, m: Mapping, x: u64) -> Search
 // The search for `x` by halves, which may be used since ends ascend: no more looks than `count` has binary digits.
 fn halve(t: &[u64], count: usize, x: u64) -> Search
     requires { ⌜ Valid (now t) count ⌝ }
-    ensures { λ s. ⌜ s ≡ halving (mappingsIn count (now (t .entry))) x ⌝ }
+    ensures { λ s. ⌜ (s ≡ halving (mappingsIn count (now (t .entry))) x) × (s .looks ≤ binaryDigits count) ⌝ }
 {
     let mut s = Search {
         lo: 0,

@@ -9,7 +9,7 @@ halve-requires : tie.Need-halve-requires
 halve-requires c κs = search needs
 
 returns : tie.Need-returns
-returns c = let start = c .before .before in place-is (start .pre) (start .args .x) (c .halve .ensures)
+returns c = let start = c .before .before in place-is (start .pre) (start .args .x) (c .halve .ensures .0)
 
 pub first-ending-behind-spec : {M : Type 1} → statement M
 first-ending-behind-spec = tie.close (tie.spec halve-requires returns)

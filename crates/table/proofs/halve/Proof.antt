@@ -6,8 +6,8 @@ use native.Mathlib.Omega.{arith}
 use Rattle.model.specs.Table.{mappingsIn}
 use Rattle.table.specs.Places.{mappingAt}
 use Rattle.table.specs.Halving.{binaryDigits}
-use Rattle.table.proofs.Halving.{halved-less, Left, left-end}
-use Rattle.table.proofs.Looks.{looks-start, looks-place, looks-halvable, looks-next}
+use Rattle.table.proofs.Halving.{halved-less, Left}
+use Rattle.table.proofs.Looks.{looks-start, looks-place, looks-halvable, looks-next, looks-end}
 use borrow.Author.Needs.{needs}
 use Rattle.table.proofs.halve.Statement.{statement}
 use Rattle.table.proofs.halve.Tie as tie
@@ -53,8 +53,8 @@ loop-again c =
 returns : tie.Need-returns Inv-loop μ-loop
 returns c =
     let loop = c .before .before in
-    let a = loop .before .before .args in
-    left-end (mappingsIn (a .count) (a .t .now)) (a .x) (loop .loop .inv) (c .if1 .left)
+    let start = loop .before .before in
+    looks-end (start .pre) (start .args .x) (loop .loop .inv) (c .if1 .left)
 
 pub halve-spec : {M : Type 1} → statement M
 halve-spec =
