@@ -1,0 +1,39 @@
+/* SPDX-License-Identifier: MIT */
+/*
+ * Look-ups in a table of as many mappings as the argument says, for a trace of memory accesses: a store
+ * marks where each begins and where it ends. The line printed tells where the table and the marks are.
+ */
+#include <inttypes.h>
+#include <stdio.h>
+#include <stdlib.h>
+
+#include "waylluqen.h"
+
+static uint64_t table[WAYLLUQEN_TABLE_WORDS(WAYLLUQEN_MAX_MAPPINGS)] __attribute__((aligned(65536)));
+static volatile uint64_t marks[2] __attribute__((aligned(65536)));
+
+int main(int argc, char **argv)
+{
+    const waylluqen_space space = {.size = UINT64_C(1) << 48};
+    const uint64_t page = WAYLLUQEN_PAGE_SIZE;
+    size_t count = argc > 1 ? strtoul(argv[1], NULL, 10) : 0;
+
+    /* Every other page is mapped. */
+    for (size_t i = 0; i < count; i++) {
+        table[4 * i] = 2 * i * page;
+        table[4 * i + 1] = page;
+        table[4 * i + 2] = 7;
+    }
+    printf("at %08" PRIxPTR " %08" PRIxPTR "\n", (uintptr_t)table, (uintptr_t)marks);
+    fflush(stdout);
+
+    /* From 0 on; in a long table not at every page, since a trace is long. */
+    for (size_t i = 0; i <= 2 * count; i += count > 64 ? 97 : 1) {
+        marks[0] = i;
+        waylluqen_translation shown = waylluqen_lookup(space, table, sizeof table / sizeof *table, count, i * page);
+        marks[1] = i;
+        if (shown.refusal != WAYLLUQEN_OK)
+            return 1;
+    }
+    return 0;
+}
