@@ -1,7 +1,8 @@
 /* SPDX-License-Identifier: MIT */
 /*
  * Look-ups in a table of as many mappings as the argument says, for a trace of memory accesses: a store
- * marks where each begins and where it ends. The line printed tells where the table and the marks are.
+ * marks where each begins and where it ends. The line printed tells where the table and the marks are, and
+ * how many pages apart the addresses are.
  */
 #include <inttypes.h>
 #include <stdio.h>
@@ -24,11 +25,12 @@ int main(int argc, char **argv)
         table[4 * i + 1] = page;
         table[4 * i + 2] = 7;
     }
-    printf("at %08" PRIxPTR " %08" PRIxPTR "\n", (uintptr_t)table, (uintptr_t)marks);
+    /* In a long table not every page is asked for, since a trace is long. */
+    const size_t step = count > 64 ? 29 : 1;
+    printf("at %08" PRIxPTR " %08" PRIxPTR " %zu\n", (uintptr_t)table, (uintptr_t)marks, step);
     fflush(stdout);
 
-    /* From 0 on; in a long table not at every page, since a trace is long. */
-    for (size_t i = 0; i <= 2 * count; i += count > 64 ? 97 : 1) {
+    for (size_t i = 0; i <= 2 * count; i += step) {
         marks[0] = i;
         waylluqen_translation shown = waylluqen_lookup(space, table, sizeof table / sizeof *table, count, i * page);
         marks[1] = i;

@@ -126,7 +126,7 @@ shows-member (n ∷ ms) m x a (List·Memᴰ·tail k) i =
     let behind : end n ≤ m .address = each-mem (λ m. end n ≤ m .address) ms m (a .0) k in
     translate-past n ms x (λ j. omega arith) ∙ shows-member ms m x (a .1) k i
 
-hides-all : (ms : List Mapping) (x : ℕ) → ((m : Mapping) → m ∈ ms → (x < m .address) ⊎ (end m ≤ x)) → translate ms x ≡ Nothing
+pub hides-all : (ms : List Mapping) (x : ℕ) → ((m : Mapping) → m ∈ ms → (x < m .address) ⊎ (end m ≤ x)) → translate ms x ≡ Nothing
 unfolding translate
 hides-all [] x h = refl
 hides-all (m ∷ ms) x h = translate-past m ms x (out (h m (List·Memᴰ·head refl))) ∙ hides-all ms x (λ n k. h n (List·Memᴰ·tail k))

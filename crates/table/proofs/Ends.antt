@@ -1,6 +1,7 @@
 -- Mappings in order: the first one that ends behind a byte address, and why no other can have the byte.
 -- Assumes nothing.
 use mathlib.Core.Path.{_≡_, refl, sym, _∙_}
+use mathlib.Core.Logic.{inl}
 use mathlib.Core.Bool.{Bool, true, false}
 use mathlib.Core.List.{List, [], _∷_}
 use Prim.Native.Nat.{ℕ, zero, suc, _≤_, _<_}
@@ -13,15 +14,11 @@ use Rattle.model.specs.Rows.{choose}
 use Rattle.model.specs.Rules.{end}
 use Rattle.model.specs.Cut.{translate}
 use Rattle.model.specs.Exactly.{Each, Ascends}
-use Rattle.model.proofs.Actions.{each-map}
-use Rattle.model.proofs.Translate.{translate-past}
+use Rattle.model.proofs.Actions.{each-mem, each-map}
+use Rattle.model.proofs.Translate.{translate-past, hides-all}
 use Rattle.table.specs.Places.{firstWhere, endsBehind}
 use Rattle.table.proofs.First.{first-before}
-
-each-at : (P : Mapping → Type 0) (ms : List Mapping) (i : ℕ) (d : Mapping) → Each P ms → i < length ms → P (getD ms i d)
-each-at P [] i d h l = absurd (omega arith)
-each-at P (m ∷ ms) zero d h l = h .0
-each-at P (m ∷ ms) (suc i) d h l = each-at P ms i d (h .1) (omega arith)
+use Rattle.table.proofs.Places.{each-at}
 
 -- ends ascend: where one ends at or before x, the first that ends behind x stands behind it
 pub ends-ascend : (ms : List Mapping) (x i : ℕ) (d : Mapping) → Ascends ms → i < length ms → end (getD ms i d) ≤ x → i < firstWhere (endsBehind x) ms
@@ -51,9 +48,7 @@ module _ (x : ℕ) where
       go false q ih = ih
 
   none-from : (y : ℕ) (ms : List Mapping) → Each (λ m. y ≤ m .address) ms → x < y → translate ms x ≡ Nothing
-  unfolding translate
-  none-from y [] a h = refl
-  none-from y (m ∷ ms) a h = translate-past m ms x (λ i. omega arith) ∙ none-from y ms (a .1) h
+  none-from y ms a h = hides-all ms x (λ m i. inl (omega (arith, each-mem (λ n. y ≤ n .address) ms m a i)))
 
   -- those before the first that ends behind x end too early, and those behind it start too late
   pub first-shows : (ms : List Mapping) → Ascends ms → translate (take 1 (drop (firstWhere (endsBehind x) ms) ms)) x ≡ translate ms x

@@ -8,12 +8,11 @@ use native.Mathlib.Numerals.{add-one}
 use lib.ListN.{length, getD, drop}
 use lib.Seq.{drop-cons, drop-length, getD-drop}
 use Rattle.model.specs.declared.Mapping.{Mapping}
-use Rattle.model.specs.declared.Space.{Space}
 use Rattle.model.specs.Rules.{limit, end}
 use Rattle.model.specs.Table.{mappingsIn}
-use Rattle.model.specs.Exactly.{Ascends}
+use Rattle.model.specs.Exactly.{Each, MappingRules, Ascends, TableRules}
 use Rattle.model.proofs.Store.{length-mappings}
-use Rattle.model.proofs.Chain.{Fit, Chain}
+use Rattle.model.proofs.Chain.{Chain}
 use Rattle.model.proofs.Table.{top, good-chain, chain-rules}
 use Rattle.table.specs.Places.{mappingAt, Valid}
 
@@ -49,24 +48,25 @@ from-end ws n i e = ap (λ (k : ℕ). drop k (mappingsIn n ws)) (e ∙ sym (leng
 
 -- ── a table that passed its check ──
 
-chain-at : (s : Space) (from to : ℕ) (ms : List Mapping) (i : ℕ) (d : Mapping) → Chain s from to ms → i < length ms
-    → (a : ℕ) × Fit s a (getD ms i d)
-chain-at s from to [] i d c h = absurd (omega arith)
-chain-at s from to (m ∷ ms) zero d c h = (from, c .0)
-chain-at s from to (m ∷ ms) (suc i) d c h = chain-at s (end m) to ms i d (c .1) (omega arith)
+pub each-at : (P : Mapping → Type 0) (ms : List Mapping) (i : ℕ) (d : Mapping) → Each P ms → i < length ms → P (getD ms i d)
+each-at P [] i d h l = absurd (omega arith)
+each-at P (m ∷ ms) zero d h l = h .0
+each-at P (m ∷ ms) (suc i) d h l = each-at P ms i d (h .1) (omega arith)
 
 module _ {ws : List ℕ} {n : ℕ} (v : Valid ws n) where
   pub valid-chain : Chain (v .space) 0 (top (v .space)) (mappingsIn n ws)
   valid-chain = good-chain (v .space) (mappingsIn n ws) (v .kept ∙ sym (length-mappings n ws))
 
+  rules : TableRules (v .space) (mappingsIn n ws)
+  rules = chain-rules (v .space) 0 (top (v .space)) (mappingsIn n ws) valid-chain
+
   pub valid-ascends : Ascends (mappingsIn n ws)
-  valid-ascends = chain-rules (v .space) 0 (top (v .space)) (mappingsIn n ws) valid-chain .1
+  valid-ascends = rules .1
 
   -- no sum of a mapping in it is large
   pub valid-at : {m : Mapping} (i : ℕ) → i < n → m ≡ mappingAt ws i → (end m ≤ limit) × (m .offset + m .size ≤ limit)
   valid-at {m} i h e =
-      let ms : List Mapping = mappingsIn n ws in
-      let l : length ms ≡ n = length-mappings n ws in
-      let f = chain-at (v .space) 0 (top (v .space)) ms i m valid-chain (omega arith) in
-      let g : Fit (v .space) (f .0) m = subst (Fit (v .space) (f .0)) (at-place n ws i m h ∙ sym e) (f .1) in
-      (omega (arith, g .high, v .top), g .offset-most)
+      let l : i < length (mappingsIn n ws) = omega (arith, length-mappings n ws) in
+      let f = each-at (MappingRules (v .space)) (mappingsIn n ws) i m (rules .0) l in
+      let g : MappingRules (v .space) m = subst (MappingRules (v .space)) (at-place n ws i m h ∙ sym e) f in
+      (omega (arith, g .within, v .top), g .offset-end-most)
