@@ -17,7 +17,7 @@ ghost use Rattle.inspect.specs.Part.{upTo};
 ghost use Rattle.inspect.specs.Rows.{ownRows};
 
 // Document 01: a table has room for 1 to so many mappings.
-const MOST_MAPPINGS: usize = 512;
+const MOST_MAPPINGS: usize = 4096;
 
 // A difference of two numbers up to 2^49 is at most this, and above it where it wraps.
 const MOST_DIFFERENCE: u64 = 0x7fff_ffff_ffff_ffff;

@@ -1,5 +1,5 @@
 -- The edges of the rules, computed: the request check at 31 inputs around them, one listing (Exactly covers them all);
--- the longest table, whose 2,048 words no claim writes out.
+-- the longest table, whose 16,384 words no claim writes out.
 -- Assumes nothing.
 use mathlib.Core.Path.{_≡_, refl}
 use mathlib.Core.Bool.{Bool, true, _&&_}
@@ -7,12 +7,12 @@ use mathlib.Core.List.{List, [], _∷_, _++_}
 use Prim.Native.Nat.{ℕ, _-_, _^_}
 use lib.Dec.{T, eqb, eqb→eq}
 use lib.ListN.{replicate}
-use Rattle.model.specs.Prelude.{Space, Nothing}
-use Rattle.model.specs.Rows.{refused, answered, decide}
+use Rattle.model.specs.Prelude.{Space, Nothing, Grant}
+use Rattle.model.specs.Rows.{Reply, refused, answered, decide}
 use Rattle.model.specs.Rules.{byNumbers, formRows, requestRows}
-use Rattle.model.specs.Calls.{spaceOf, checkRows, checkRequest, littleEndian, requestOf, recordRows, bytesOf, recordOf, lookup}
+use Rattle.model.specs.Calls.{spaceOf, checkRows, checkRequest, littleEndian, requestOf, recordRows, bytesOf, recordOf, numbers, bindRows, bind, lookup}
 use Rattle.model.specs.Table.{Table, mappingsIn, badPlace, tableRows}
-use Rattle.model.specs.Cut.{translate}
+use Rattle.model.specs.Cut.{below, above, hits, operations, translate}
 use Rattle.model.specs.Exactly.{Each}
 use Rattle.model.proofs.Tests.{and-both}
 
@@ -110,10 +110,22 @@ boundaries-right = each-right boundaries tt
 abbrev zeros : ℕ → Table
 zeros n = record { words = replicate n 0; count = 0 }
 
-longest : lookup plain (zeros 2048) 0 ≡ answered Nothing
-unfolding lookup tableRows decide badPlace mappingsIn translate
-longest = refl
+-- a map of a page into an empty table of n words; the operation words are enough for each of them
+abbrev mapInto : ℕ → Reply Grant
+mapInto n = bind plain (zeros n) (replicate 60000 0) (numbers 0 0 4096 7 0) .answer
 
-too-long : lookup plain (zeros 2052) 0 ≡ refused 2 0
+longest-bound : mapInto 16384 ≡ answered (record { operations = 1; count = 1 })
+unfolding bind bindRows formRows requestRows tableRows decide badPlace mappingsIn below above hits operations
+longest-bound = refl
+
+too-long-bound : mapInto 16388 ≡ refused 2 0
+unfolding bind bindRows formRows tableRows decide
+too-long-bound = refl
+
+longest-shown : lookup plain (zeros 16384) 0 ≡ answered Nothing
+unfolding lookup tableRows decide badPlace mappingsIn translate
+longest-shown = refl
+
+too-long-shown : lookup plain (zeros 16388) 0 ≡ refused 2 0
 unfolding lookup tableRows decide
-too-long = refl
+too-long-shown = refl

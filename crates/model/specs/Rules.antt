@@ -16,7 +16,7 @@ lastObject = 2 ^ 32 - 1
 
 -- a table has room for 1 to so many mappings
 abbrev pub mostMappings : ℕ
-mostMappings = 512
+mostMappings = 4096
 
 -- where a mapping ends, and a request's range
 abbrev pub end : Mapping → ℕ

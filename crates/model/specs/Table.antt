@@ -41,7 +41,7 @@ unfoldable pub badPlace : Space → ℕ → List Mapping → ℕ
 badPlace s from [] = 0
 badPlace s from (m ∷ ms) = choose (all (fitTests s from m)) (suc (badPlace s (end m) ms)) 0
 
--- document 01: the refusal table. Table length 0, not a multiple of 4, or above 2,048 words
+-- document 01: the refusal table. Table length 0, not a multiple of 4, or above 16,384 words
 abbrev pub lengthRow : Table → Row
 lengthRow t = row 2 (ltb 0 (length (t .words)) ∷ eqb (length (t .words) % 4) 0 ∷ leb (length (t .words)) (4 * mostMappings) ∷ [])
 

@@ -9,7 +9,7 @@ use native.Mathlib.Omega.{arith}
 use Rattle.model.proofs.Numbers.{order}
 use Rattle.table.specs.Halving.{digitsIn, binaryDigits, BinaryDigits}
 
-worked : map binaryDigits (0 ∷ 1 ∷ 2 ∷ 3 ∷ 4 ∷ 7 ∷ 8 ∷ 511 ∷ 512 ∷ []) ≡ 0 ∷ 1 ∷ 2 ∷ 2 ∷ 3 ∷ 3 ∷ 4 ∷ 9 ∷ 10 ∷ []
+worked : map binaryDigits (0 ∷ 1 ∷ 2 ∷ 3 ∷ 4 ∷ 7 ∷ 8 ∷ 4095 ∷ 4096 ∷ []) ≡ 0 ∷ 1 ∷ 2 ∷ 2 ∷ 3 ∷ 3 ∷ 4 ∷ 12 ∷ 13 ∷ []
 unfolding binaryDigits digitsIn
 worked = refl
 

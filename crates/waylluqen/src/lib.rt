@@ -218,8 +218,8 @@ pub extern "C" fn waylluqen_bind_record(
 // The interface's number is in the name: header and ffi.rs need this very symbol, so that they link with no other edition of
 // the calls above. CONTRIBUTING.md says when it goes up.
 #[no_mangle]
-pub extern "C" fn waylluqen_interface_2() -> u32
-    ensures { λ n. ⌜ n ≡ 2 ⌝ }
+pub extern "C" fn waylluqen_interface_3() -> u32
+    ensures { λ n. ⌜ n ≡ 3 ⌝ }
 {
-    2
+    3
 }
