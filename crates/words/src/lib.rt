@@ -1,6 +1,6 @@
 // Runs of words inside one lent slice: stored, moved and cleared.
 ghost use mathlib.Core.Path.{_≡_};
-ghost use Prim.Native.Nat.{_+_, _≤_};
+ghost use Prim.Native.Nat.{_+_, _*_, _≤_};
 ghost use lib.ListN.{length};
 ghost use Rattle.words.specs.Words.{stored, moved, cleared};
 
@@ -53,17 +53,38 @@ fn up_sixteen(t: &mut [u64], from: usize, to: usize)
     copy_four(t, from, to)
 }
 
-// Copies the `n` words from `from` on to `to` on, where `to` is not above `from`: from the first word to the last.
-fn move_down(t: &mut [u64], from: usize, to: usize, n: usize)
+// Copies `turns` times sixteen words, where `to` is not above `from`: from the first to the last.
+fn down_turns(t: &mut [u64], from: usize, to: usize, turns: usize)
+    requires { ⌜ (to ≤ from) × (from + 16 * turns ≤ length (now t)) ⌝ }
+    ensures { λ _. ⌜ now (t .exit) ≡ moved (now (t .entry)) from to (16 * turns) ⌝ }
+{
+    let mut i: usize = 0;
+    while i < turns {
+        down_sixteen(t, from + 16 * i, to + 16 * i);
+        i += 1;
+    }
+}
+
+// The same where `to` is not below `from`: from the last to the first.
+fn up_turns(t: &mut [u64], from: usize, to: usize, turns: usize)
+    requires { ⌜ (from ≤ to) × (to + 16 * turns ≤ length (now t)) ⌝ }
+    ensures { λ _. ⌜ now (t .exit) ≡ moved (now (t .entry)) from to (16 * turns) ⌝ }
+{
+    let mut left = turns;
+    while 0 < left {
+        left -= 1;
+        up_sixteen(t, from + 16 * left, to + 16 * left);
+    }
+}
+
+// Copies `n` words that are few, where `to` is not above `from`: by four, from the first to the last.
+fn down_few(t: &mut [u64], from: usize, to: usize, n: usize)
     requires { ⌜ (to ≤ from) × (from + n ≤ length (now t)) ⌝ }
     ensures { λ _. ⌜ now (t .exit) ≡ moved (now (t .entry)) from to n ⌝ }
 {
     let mut j: usize = 0;
     while j < n {
-        if 16 <= n - j {
-            down_sixteen(t, from + j, to + j);
-            j += 16;
-        } else if 4 <= n - j {
+        if 4 <= n - j {
             copy_four(t, from + j, to + j);
             j += 4;
         } else {
@@ -73,17 +94,14 @@ fn move_down(t: &mut [u64], from: usize, to: usize, n: usize)
     }
 }
 
-// The same where `to` is not below `from`: from the last word to the first.
-fn move_up(t: &mut [u64], from: usize, to: usize, n: usize)
+// The same where `to` is not below `from`: from the last to the first.
+fn up_few(t: &mut [u64], from: usize, to: usize, n: usize)
     requires { ⌜ (from ≤ to) × (to + n ≤ length (now t)) ⌝ }
     ensures { λ _. ⌜ now (t .exit) ≡ moved (now (t .entry)) from to n ⌝ }
 {
     let mut j = n;
     while 0 < j {
-        if 16 <= j {
-            j -= 16;
-            up_sixteen(t, from + j, to + j);
-        } else if 4 <= j {
+        if 4 <= j {
             j -= 4;
             copy_four(t, from + j, to + j);
         } else {
@@ -91,6 +109,26 @@ fn move_up(t: &mut [u64], from: usize, to: usize, n: usize)
             t[to + j] = t[from + j];
         }
     }
+}
+
+// Copies the `n` words from `from` on to `to` on, where `to` is not above `from`: the first ones first, sixteen to a turn.
+fn move_down(t: &mut [u64], from: usize, to: usize, n: usize)
+    requires { ⌜ (to ≤ from) × (from + n ≤ length (now t)) ⌝ }
+    ensures { λ _. ⌜ now (t .exit) ≡ moved (now (t .entry)) from to n ⌝ }
+{
+    let turns = n / 16;
+    down_turns(t, from, to, turns);
+    down_few(t, from + 16 * turns, to + 16 * turns, n % 16)
+}
+
+// The same where `to` is not below `from`: the last ones first.
+fn move_up(t: &mut [u64], from: usize, to: usize, n: usize)
+    requires { ⌜ (from ≤ to) × (to + n ≤ length (now t)) ⌝ }
+    ensures { λ _. ⌜ now (t .exit) ≡ moved (now (t .entry)) from to n ⌝ }
+{
+    let few = n % 16;
+    up_turns(t, from + few, to + few, n / 16);
+    up_few(t, from, to, few)
 }
 
 // Copies the `n` words from `from` on to `to` on; the two runs may overlap.
