@@ -8,7 +8,7 @@ ghost use lib.ListN.{length, drop};
 ghost use Rattle.model.specs.Rules.{limit};
 ghost use Rattle.model.specs.Table.{mappingFrom, mappingsIn, wordsOf, written};
 ghost use Rattle.model.specs.Cut.{prepend, translate};
-ghost use Rattle.words.specs.Words.{stored};
+ghost use Rattle.words.specs.Words.{stored, cleared};
 ghost use Rattle.table.specs.Halving.{binaryDigits, middle, halved, halving, Halvable};
 ghost use Rattle.table.specs.Places.{mappingAt, firstWhere, startsBehind, endsBehind, Valid};
 ghost use Rattle.table.specs.Splice.{mappingsOf, spliced, Splice};
@@ -209,6 +209,19 @@ fn write_replacement(t: &mut [u64], i: usize, new: Replacement)
     }
 }
 
+// Makes the words behind the last of `after` mappings zero, where there were `count`: those of the mappings that are gone, and those behind them.
+fn clear_behind(t: &mut [u64], count: usize, after: usize)
+    requires { ⌜ (4 * count ≤ length (now t)) × (4 * after ≤ length (now t)) ⌝ }
+    ensures { λ _. ⌜ now (t .exit) ≡ cleared (now (t .entry)) (4 * after) ⌝ }
+{
+    if after < count {
+        words::clear(t, 4 * after, 4 * count);
+        words::clear_from(t, 4 * count)
+    } else {
+        words::clear_from(t, 4 * after)
+    }
+}
+
 // The mappings from place `lo` up to `hi` give way to the new ones, in place; the words behind the last mapping are zero.
 pub fn splice(t: &mut [u64], count: usize, lo: usize, hi: usize, new: Replacement)
     requires { ⌜ Splice (now t) count lo hi new ⌝ }
@@ -218,5 +231,5 @@ pub fn splice(t: &mut [u64], count: usize, lo: usize, hi: usize, new: Replacemen
     let rest = count - hi;
     words::move_run(t, 4 * hi, 4 * to, 4 * rest);
     write_replacement(t, lo, new);
-    words::clear_from(t, 4 * (to + rest));
+    clear_behind(t, count, to + rest)
 }

@@ -1,2 +1,3 @@
 pub mod Stored
 pub mod Moved
+pub mod Zeros

@@ -119,6 +119,10 @@ zeros-next ws at k h =
 
 -- ── zeros to the end ──
 
+pub cleared-is : (ws : List ℕ) (from : ℕ) → take from ws ++ replicate (length ws - from) 0 ≡ cleared ws from
+unfolding cleared
+cleared-is ws from = refl
+
 pub cleared-stored : (ws : List ℕ) (at : ℕ) → at ≤ length ws → stored ws at (replicate (length ws - at) 0) ≡ cleared ws at
 unfolding stored cleared
 cleared-stored ws at h =
@@ -130,3 +134,14 @@ pub cleared-behind : (ws : List ℕ) (at : ℕ) (run : List ℕ) → at + length
     → cleared (stored ws at run) (at + length run) ≡ take at ws ++ (run ++ replicate (length ws - (at + length run)) 0)
 unfolding cleared
 cleared-behind ws at run h = rw (take-stored-end ws at run (omega arith), length-stored ws at run h) (simp append-assoc)
+
+-- zeros up to a place, and then from it on
+pub cleared-twice : (ws : List ℕ) (from to : ℕ) → from ≤ to → to ≤ length ws
+    → cleared (stored ws from (replicate (to - from) 0)) to ≡ cleared ws from
+cleared-twice ws from to h k =
+    let zs : List ℕ = replicate (to - from) 0 in
+    let l : length zs ≡ to - from = length-replicate (to - from) 0 in
+    let e : from + length zs ≡ to = omega arith in
+    let n : to - from + (length ws - to) ≡ length ws - from = omega arith in
+    rw e at (cleared-behind ws from zs (omega arith))
+    ∙ rw (replicate-append-replicate {A = ℕ} (to - from) (length ws - to) 0, n) (cleared-is ws from)

@@ -1,5 +1,6 @@
 -- What is done to the words of a slice, as lists.
 -- Assumes nothing.
+use mathlib.Core.Path.{_≡_}
 use mathlib.Core.List.{List, _++_}
 use Prim.Native.Nat.{ℕ, _+_, _-_}
 use lib.ListN.{length, take, drop, replicate}
@@ -15,3 +16,7 @@ moved ws from to n = stored ws to (take n (drop from ws))
 -- zeros from place `from` on
 unfoldable pub cleared : List ℕ → ℕ → List ℕ
 cleared ws from = take from ws ++ replicate (length ws - from) 0
+
+-- all words from place `from` on are zero
+abbrev pub ZeroFrom : List ℕ → ℕ → Type 0
+ZeroFrom ws from = drop from ws ≡ replicate (length ws - from) 0

@@ -1,8 +1,12 @@
 // Runs of words inside one lent slice: stored, moved and cleared.
 ghost use mathlib.Core.Path.{_≡_};
-ghost use Prim.Native.Nat.{_+_, _*_, _≤_};
-ghost use lib.ListN.{length};
-ghost use Rattle.words.specs.Words.{stored, moved, cleared};
+ghost use mathlib.Core.Bool.{true};
+ghost use Prim.Native.Nat.{_+_, _-_, _*_, _≤_};
+ghost use lib.ListN.{length, replicate};
+ghost use Rattle.words.specs.Words.{stored, moved, cleared, ZeroFrom};
+
+// 32 KiB, which the nearest cache of a processor holds.
+const MANY_WORDS: usize = 4096;
 
 // Writes the run over the words from `at` on.
 pub fn store(t: &mut [u64], at: usize, run: &[u64])
@@ -146,15 +150,42 @@ pub fn move_run(t: &mut [u64], from: usize, to: usize, n: usize)
     }
 }
 
-// Makes the words from `from` on zero.
+// Makes the words from `from` up to `to` zero.
+pub fn clear(t: &mut [u64], from: usize, to: usize)
+    requires { ⌜ (from ≤ to) × (to ≤ length (now t)) ⌝ }
+    ensures { λ _. ⌜ now (t .exit) ≡ stored (now (t .entry)) from (replicate (to - from) 0) ⌝ }
+{
+    let mut i = from;
+    while i < to {
+        t[i] = 0;
+        i += 1;
+    }
+}
+
+// Whether all words from `from` on are zero: joined bit by bit, one look at the end tells.
+fn are_zero_from(t: &[u64], from: usize) -> bool
+    requires { ⌜ from ≤ length (now t) ⌝ }
+    ensures { λ b. ⌜ (b ≡ true → ZeroFrom (now (t .entry)) from) × (ZeroFrom (now (t .entry)) from → b ≡ true) ⌝ }
+{
+    let mut i = from;
+    let mut seen: u64 = 0;
+    while i < t.len() {
+        seen = seen | t[i];
+        i += 1;
+    }
+    seen == 0
+}
+
+// Makes the words from `from` on zero. Where they are many they are looked at first: mostly they are zero already, and to read them is quicker
+// than to write them.
 pub fn clear_from(t: &mut [u64], from: usize)
     requires { ⌜ from ≤ length (now t) ⌝ }
     ensures { λ _. ⌜ now (t .exit) ≡ cleared (now (t .entry)) from ⌝ }
 {
-    // Counted down, so that the last word is the one with 1 left.
-    let mut left = t.len() - from;
-    while 0 < left {
-        t[t.len() - left] = 0;
-        left -= 1;
+    if MANY_WORDS < t.len() - from {
+        if are_zero_from(t, from) {
+            return;
+        }
     }
+    clear(t, from, t.len())
 }

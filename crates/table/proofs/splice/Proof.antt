@@ -30,14 +30,11 @@ move-run-requires c κs = search needs
 write-replacement-requires : tie.Need-write-replacement-requires
 write-replacement-requires c κs = search needs
 
-add-clear-from : tie.Need-add-clear-from
-add-clear-from c = search needs
+add-clear-behind : tie.Need-add-clear-behind
+add-clear-behind c = search needs
 
-mul-clear-from : tie.Need-mul-clear-from
-mul-clear-from c = search needs
-
-clear-from-requires : tie.Need-clear-from-requires
-clear-from-requires c κs = search needs
+clear-behind-requires : tie.Need-clear-behind-requires
+clear-behind-requires c κs = search needs
 
 same-length : tie.Need-same-length
 same-length c = search needs
@@ -50,7 +47,7 @@ returns c =
     let counted = moved .before .before in
     let start = counted .before .before in
     let a = start .args in
-    cleared .clear-from .ensures
+    cleared .clear-behind .ensures
     ∙ rw (written .write-replacement .ensures, moved .move-run .ensures, counted .replacement-length .ensures .0)
     (splice-written (a .t .now) (a .count) (a .lo) (a .hi) (a .new) (start .pre))
 
@@ -66,8 +63,7 @@ splice-spec =
     mul-move-run-3
     move-run-requires
     write-replacement-requires
-    add-clear-from
-    mul-clear-from
-    clear-from-requires
+    add-clear-behind
+    clear-behind-requires
     same-length
     returns)
