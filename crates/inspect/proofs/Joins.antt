@@ -42,10 +42,10 @@ parts x a b c = (
 )
 
 -- a wrapped difference that is not very large did not wrap
-exact : (r a b : ℕ) → (r + b) % 2 ^ 64 ≡ a → r < 2 ^ 63 → b ≤ limit + limit → b ≤ a
+exact : (r a b : ℕ) → (r + b) % 2 ^ 64 ≡ a → r < limit → b ≤ limit + limit → r + b ≡ a
 exact r a b e h k = omega (arith, e, h, k)
 
--- what `join` makes of a mapping's words: differences, and the sum of its offset and size, all wrapped
+-- what `join` makes of a mapping's words: differences, all wrapped
 pub record Wrapped (from : ℕ) (m : Mapping) : Type 0 where
   pub size : ℕ
   pub size-is : (size + 1) % 2 ^ 64 ≡ m .size
@@ -53,10 +53,8 @@ pub record Wrapped (from : ℕ) (m : Mapping) : Type 0 where
   pub object-is : (object + 1) % 2 ^ 64 ≡ m .object
   pub start : ℕ
   pub start-is : (start + from) % 2 ^ 64 ≡ m .address
-  pub sum : ℕ
-  pub sum-is : sum ≡ (m .offset + m .size) % 2 ^ 64
-  pub rest : ℕ
-  pub rest-is : (rest + sum) % 2 ^ 64 ≡ limit
+  pub last : ℕ
+  pub last-is : last ≡ (m .offset + size) % 2 ^ 64
 
 module _ (j : Joined) (from : ℕ) (m : Mapping) (d : Wrapped from m) where
   -- the differences but the last
@@ -67,14 +65,14 @@ module _ (j : Joined) (from : ℕ) (m : Mapping) (d : Wrapped from m) where
   next = record {
     bits = bitOr (bitOr (bitOr (j .bits) (m .address)) (m .size)) (m .offset);
     objects = bitOr (j .objects) (m .object);
-    differences = bitOr first-four (d .rest);
+    differences = bitOr first-four (d .last);
   }
 
   module _ (k : Clean next) where
     word : {x : ℕ} → Part x (next .bits) → (x % page ≡ 0) × (x ≤ limit)
     word p = (p .on-page (k .on-page), omega (arith, p .most, k .bits-most))
 
-    small : {x : ℕ} → Part x (next .differences) → x < 2 ^ 63
+    small : {x : ℕ} → Part x (next .differences) → x < limit
     small p = omega (arith, p .most, k .differences-most)
 
     join-before : Clean j
@@ -84,7 +82,7 @@ module _ (j : Joined) (from : ℕ) (m : Mapping) (d : Wrapped from m) where
           on-page = w .0;
           bits-most = w .1;
           objects-most = omega (arith, part-first (j .objects) (m .object) .most, k .objects-most);
-          differences-most = small (part-more (d .rest) (parts (j .differences) (d .size) (d .object) (d .start) .0));
+          differences-most = small (part-more (d .last) (parts (j .differences) (d .size) (d .object) (d .start) .0));
         }
 
     join-fits : from ≤ limit + limit → Fits from m
@@ -95,11 +93,11 @@ module _ (j : Joined) (from : ℕ) (m : Mapping) (d : Wrapped from m) where
         let size = word (p .2) in
         let offset = word (p .3) in
         let object-most : m .object ≤ lastObject = omega (arith, part-second (j .objects) (m .object) .most, k .objects-most) in
-        let size-least = exact (d .size) (m .size) 1 (d .size-is) (small (part-more (d .rest) (q .1))) (omega arith) in
-        let object-least = exact (d .object) (m .object) 1 (d .object-is) (small (part-more (d .rest) (q .2))) (omega arith) in
-        let start = exact (d .start) (m .address) from (d .start-is) (small (part-more (d .rest) (q .3))) h in
-        let sum : d .sum ≡ m .offset + m .size = omega (arith, d .sum-is, size .1, offset .1) in
-        let offset-most = exact (d .rest) limit (d .sum) (d .rest-is) (small (part-second first-four (d .rest))) (omega (arith, sum, size .1, offset .1)) in
+        let size-least = exact (d .size) (m .size) 1 (d .size-is) (small (part-more (d .last) (q .1))) (omega arith) in
+        let object-least = exact (d .object) (m .object) 1 (d .object-is) (small (part-more (d .last) (q .2))) (omega arith) in
+        let start = exact (d .start) (m .address) from (d .start-is) (small (part-more (d .last) (q .3))) h in
+        let last-most = small (part-second first-four (d .last)) in
+        let offset-most : m .offset + m .size ≤ limit = omega (arith, d .last-is, size-least, offset .1, last-most) in
         record {
           ends = omega (arith, address .1, size .1);
           fits = λ stop l. all-true (fitTests (upTo stop) from m) (omega tests);

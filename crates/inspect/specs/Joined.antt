@@ -2,7 +2,7 @@
 -- Assumes nothing.
 use mathlib.Core.Path.{_≡_}
 use mathlib.Core.Bool.{true}
-use Prim.Native.Nat.{ℕ, _+_, _%_, _^_, _≤_, _<_}
+use Prim.Native.Nat.{ℕ, _+_, _%_, _≤_, _<_}
 use Rattle.model.specs.declared.Mapping.{Mapping}
 use Rattle.model.specs.Rows.{all}
 use Rattle.model.specs.Rules.{page, limit, lastObject, end}
@@ -10,12 +10,12 @@ use Rattle.model.specs.Table.{fitTests}
 use Rattle.inspect.specs.declared.Joined.{Joined}
 use Rattle.inspect.specs.Part.{upTo}
 
--- no word that was joined is too large or off a page, and no difference was below zero
+-- no word that was joined is too large or off a page, and no difference was below zero or is too large
 pub record Clean (j : Joined) : Type 0 where
   pub on-page : j .bits % page ≡ 0
   pub bits-most : j .bits ≤ limit
   pub objects-most : j .objects ≤ lastObject
-  pub differences-most : j .differences < 2 ^ 63
+  pub differences-most : j .differences < limit
 
 -- the mapping fits wherever it ends in time; its end is a sum that does not wrap
 pub record Fits (from : ℕ) (m : Mapping) : Type 0 where

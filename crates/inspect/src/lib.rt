@@ -19,9 +19,6 @@ ghost use Rattle.inspect.specs.Rows.{ownRows};
 // Document 01: a table has room for 1 to so many mappings.
 const MOST_MAPPINGS: usize = 4096;
 
-// A difference of two numbers up to 2^49 is at most this, and above it where it wraps.
-const MOST_DIFFERENCE: u64 = 0x7fff_ffff_ffff_ffff;
-
 // The words of mappings joined bit by bit, and differences that their rules ask not to be below zero: one look at the end tells of all of
 // them, without a branch for each.
 struct Joined {
@@ -40,21 +37,20 @@ fn none_joined() -> Joined
     }
 }
 
-// One mapping more, which is to start at `from` or behind. A difference below zero wraps to a very large number.
+// One mapping more, which is to start at `from` or behind. A difference below zero wraps to a very large number; the last one is the place of
+// the last byte of its part of the object.
 fn join(j: Joined, from: u64, m: Mapping) -> Joined
     ensures { λ k. ⌜ (Clean k → Clean j × (from ≤ limit + limit → Fits from m)) ⌝ }
 {
+    let behind_first = std::num::wrapping_sub_u64(m.size, 1);
     Joined {
         bits: j.bits | m.address | m.size | m.offset,
         objects: j.objects | m.object,
         differences: j.differences
-            | std::num::wrapping_sub_u64(m.size, 1)
+            | behind_first
             | std::num::wrapping_sub_u64(m.object, 1)
             | std::num::wrapping_sub_u64(m.address, from)
-            | std::num::wrapping_sub_u64(
-                rules::LIMIT,
-                std::num::wrapping_add_u64(m.offset, m.size),
-            ),
+            | std::num::wrapping_add_u64(m.offset, behind_first),
     }
 }
 
@@ -65,7 +61,7 @@ fn all_keep_rules(j: Joined) -> bool
     rules::is_aligned(j.bits)
         & (j.bits <= rules::LIMIT)
         & (j.objects <= rules::LAST_OBJECT)
-        & (j.differences <= MOST_DIFFERENCE)
+        & (j.differences < rules::LIMIT)
 }
 
 // The lowest place of a mapping that breaks its rules or overlaps or precedes its forerunner; `count` where none does.

@@ -17,16 +17,12 @@ wrapping-sub-u64-requires-3 c κs = search needs
 wrapping-add-u64-requires : tie.Need-wrapping-add-u64-requires
 wrapping-add-u64-requires c κs = search needs
 
-wrapping-sub-u64-requires-4 : tie.Need-wrapping-sub-u64-requires-4
-wrapping-sub-u64-requires-4 c κs = search needs
-
 returns : tie.Need-returns
 returns c =
-    let sum = c .before in
-    let start = sum .before in
+    let start = c .before in
     let object = start .before in
-    let size = object .before .before in
-    let a = size .before .before .before .before .before .before .before .args in
+    let size = object .before .before .before .before .before .before .before .before in
+    let a = size .before .args in
     join-clean (a .j) (a .from) (a .m) (record {
       size = size .wrapping-sub-u64 .result;
       size-is = size .wrapping-sub-u64 .ensures;
@@ -34,10 +30,8 @@ returns c =
       object-is = object .wrapping-sub-u642 .ensures;
       start = start .wrapping-sub-u643 .result;
       start-is = start .wrapping-sub-u643 .ensures;
-      sum = sum .wrapping-add-u64 .result;
-      sum-is = sum .wrapping-add-u64 .ensures;
-      rest = c .wrapping-sub-u644 .result;
-      rest-is = c .wrapping-sub-u644 .ensures;
+      last = c .wrapping-add-u64 .result;
+      last-is = c .wrapping-add-u64 .ensures;
     })
 
 pub join-spec : {M : Type 1} → statement M
@@ -48,5 +42,4 @@ join-spec =
     wrapping-sub-u64-requires-2
     wrapping-sub-u64-requires-3
     wrapping-add-u64-requires
-    wrapping-sub-u64-requires-4
     returns)
