@@ -1,24 +1,14 @@
 -- Words that are zero, joined bit by bit: the joined word is zero exactly if each is.
 -- Assumes nothing.
 use mathlib.Core.Path.{_≡_, refl, sym, ap, _∙_}
-use mathlib.Core.List.{List, [], _∷_, _++_, append-assoc}
+use mathlib.Core.List.{List, [], _∷_, _++_}
 use Prim.Native.Nat.{ℕ, _+_, _-_, _≤_, _<_}
-use native.Mathlib.Numerals.{add-one}
 use native.Mathlib.Omega.{arith}
 use lib.Bits.{bitOr, or-add-and, and-le-l, and-le-r}
-use lib.ListN.{length, getD, take, drop, replicate, take-append-drop, length-drop, length-replicate, getD-replicate, replicate-append-replicate}
-use lib.Seq.{take-at, take-suc, take-take, take-length, getD-take, getD-drop}
-use Rattle.words.specs.Words.{stored, cleared, ZeroFrom}
-use Rattle.words.proofs.Stored.{length-stored, stored-behind, cleared-stored}
-
--- the k words from place `from` on are zero
-abbrev pub Zeros : List ℕ → ℕ → ℕ → Type 0
-Zeros ws from k = take k (drop from ws) ≡ replicate k 0
-
--- `seen` is zero exactly if those words are
-pub record Tells (ws : List ℕ) (from k seen : ℕ) : Type 0 where
-  pub words-zero : seen ≡ 0 → Zeros ws from k
-  pub seen-zero : Zeros ws from k → seen ≡ 0
+use lib.ListN.{length, getD, take, drop, replicate, take-append-drop, length-drop, length-replicate, replicate-append-replicate}
+use lib.Seq.{take-at, drop-at, take-add, take-take, take-length, drop-drop, drop-cons}
+use Rattle.words.specs.Words.{cleared, Zeros, ZeroFrom, Tells}
+use Rattle.words.proofs.Stored.{drop-take}
 
 or-zero : (a b : ℕ) → bitOr a b ≡ 0 → (a ≡ 0) × (b ≡ 0)
 or-zero a b e = (omega (arith, e, or-add-and a b, and-le-r a b), omega (arith, e, or-add-and a b, and-le-l a b))
@@ -27,41 +17,61 @@ zero-or : (a b : ℕ) → a ≡ 0 → b ≡ 0 → bitOr a b ≡ 0
 zero-or a b p q = omega (arith, p, q, or-add-and a b)
 
 module _ (ws : List ℕ) (from : ℕ) where
-  zeros-more : (k : ℕ) → from + k < length ws → Zeros ws from k → getD ws (from + k) 0 ≡ 0 → Zeros ws from (k + 1)
-  zeros-more k h z e =
-      rw (add-one k, take-suc (drop from ws) k 0 (simp length-drop (omega arith)), z, getD-drop from ws k 0, e)
-      (rw (add-one k) at (replicate-append-replicate {A = ℕ} k 1 0))
+  -- ── words and those behind them ──
 
-  zeros-less : (k : ℕ) → Zeros ws from (k + 1) → Zeros ws from k
-  zeros-less k z =
-      sym (take-take k (k + 1) (drop from ws) (omega arith))
-      ∙ rw (z, ← replicate-append-replicate {A = ℕ} k 1 0) (take-at (replicate k 0) (0 ∷ []) k (length-replicate k 0))
+  zeros-both : (n m : ℕ) → Zeros ws from n → Zeros ws (from + n) m → Zeros ws from (n + m)
+  zeros-both n m z y = take-add n m (drop from ws) ∙ rw (z, drop-drop n from ws, y) (replicate-append-replicate {A = ℕ} n m 0)
 
-  zeros-last : (k : ℕ) → Zeros ws from (k + 1) → getD ws (from + k) 0 ≡ 0
-  zeros-last k z =
-      sym (getD-drop from ws k 0)
-      ∙ sym (getD-take (k + 1) (drop from ws) k 0 (omega arith))
-      ∙ rw z (getD-replicate (k + 1) k 0 0 (omega arith))
+  zeros-first : (n m : ℕ) → Zeros ws from (n + m) → Zeros ws from n
+  zeros-first n m z =
+      sym (take-take n (n + m) (drop from ws) (omega arith))
+      ∙ rw (z, ← replicate-append-replicate {A = ℕ} n m 0) (take-at (replicate n 0) (replicate m 0) n (length-replicate n 0))
 
-  pub none-told : Tells ws from 0 0
-  none-told = record { words-zero = λ e. refl; seen-zero = λ z. refl }
+  zeros-second : (n m : ℕ) → from + n ≤ length ws → Zeros ws from (n + m) → Zeros ws (from + n) m
+  zeros-second n m h z =
+      let l : n ≤ length (drop from ws) = simp length-drop (omega arith) in
+      let e : drop {A = ℕ} n (replicate (n + m) 0) ≡ replicate m 0 =
+      rw (← replicate-append-replicate {A = ℕ} n m 0) (drop-at (replicate n 0) (replicate m 0) n (length-replicate n 0)) in
+      rw (← drop-drop n from ws) (sym (drop-take n m (drop from ws) l) ∙ ap (drop n) z ∙ e)
 
-  -- one word more
-  pub more-told : (k seen : ℕ) → from + k < length ws → Tells ws from k seen → Tells ws from (k + 1) (bitOr seen (getD ws (from + k) 0))
-  more-told k seen h t = record {
-    words-zero = λ e. let o = or-zero seen (getD ws (from + k) 0) e in zeros-more k h (t .words-zero (o .0)) (o .1);
-    seen-zero = λ z. zero-or seen (getD ws (from + k) 0) (t .seen-zero (zeros-less k z)) (zeros-last k z);
+  pub both-tell : {a b : ℕ} (n m : ℕ) → from + n ≤ length ws → Tells ws from n a → Tells ws (from + n) m b → Tells ws from (n + m) (bitOr a b)
+  both-tell {a} {b} n m h t u = record {
+    words-zero = λ e. let o = or-zero a b e in zeros-both n m (t .words-zero (o .0)) (u .words-zero (o .1));
+    seen-zero = λ z. zero-or a b (t .seen-zero (zeros-first n m z)) (u .seen-zero (zeros-second n m h z));
   }
 
-  -- all of them
-  all-words : from ≤ length ws → take (length ws - from) (drop from ws) ≡ drop from ws
-  all-words h = rw (← length-drop from ws) (take-length (drop from ws))
+  -- ── none, one, four times as many ──
 
-  pub all-zero : from ≤ length ws → Zeros ws from (length ws - from) → ZeroFrom ws from
-  all-zero h z = sym (all-words h) ∙ z
+  pub none-tells : Tells ws from 0 0
+  none-tells = record { words-zero = λ e. refl; seen-zero = λ z. refl }
 
-  pub zero-all : from ≤ length ws → ZeroFrom ws from → Zeros ws from (length ws - from)
-  zero-all h z = all-words h ∙ z
+  pub word-tells : from < length ws → Tells ws from 1 (getD ws from 0)
+  word-tells h =
+      let e : take 1 (drop from ws) ≡ getD ws from 0 ∷ [] = ap (take 1) (drop-cons ws from 0 h) in
+      record { words-zero = λ z. e ∙ rw z; seen-zero = λ z. ap (λ (l : List ℕ). getD l 0 0) (sym e ∙ z) }
+
+  pub four-tell : {a b c d : ℕ} (n : ℕ) → from + (n + n + n + n) ≤ length ws → Tells ws from n a → Tells ws (from + n) n b
+      → Tells ws (from + (n + n)) n c → Tells ws (from + (n + n + n)) n d → Tells ws from (n + n + n + n) (bitOr (bitOr (bitOr a b) c) d)
+  four-tell n h p q r s =
+      both-tell (n + n + n) n (omega arith) (both-tell (n + n) n (omega arith) (both-tell n n (omega arith) p q) r) s
+
+  -- those up to place i, and m more
+  pub more-tell : {a b : ℕ} (i m : ℕ) → from ≤ i → i + m ≤ length ws → Tells ws from (i - from) a → Tells ws i m b → Tells ws from (i + m - from) (bitOr a b)
+  more-tell i m h k t u =
+      let at : from + (i - from) ≡ i = omega arith in
+      let e : i + m - from ≡ i - from + m = omega arith in
+      rw e (both-tell (i - from) m (omega arith) t (rw at u))
+
+  -- ── all of them ──
+
+  all-words : take (length ws - from) (drop from ws) ≡ drop from ws
+  all-words = rw (← length-drop from ws) (take-length (drop from ws))
+
+  pub all-zero : Zeros ws from (length ws - from) → ZeroFrom ws from
+  all-zero z = sym all-words ∙ z
+
+  pub zero-all : ZeroFrom ws from → Zeros ws from (length ws - from)
+  zero-all z = all-words ∙ z
 
   -- where they are, a clear changes nothing
   pub cleared-zero : ZeroFrom ws from → cleared ws from ≡ ws

@@ -17,6 +17,14 @@ moved ws from to n = stored ws to (take n (drop from ws))
 unfoldable pub cleared : List ℕ → ℕ → List ℕ
 cleared ws from = take from ws ++ replicate (length ws - from) 0
 
--- all words from place `from` on are zero
+-- the n words from place `from` on are zero; all words from it on are
+abbrev pub Zeros : List ℕ → ℕ → ℕ → Type 0
+Zeros ws from n = take n (drop from ws) ≡ replicate n 0
+
 abbrev pub ZeroFrom : List ℕ → ℕ → Type 0
 ZeroFrom ws from = drop from ws ≡ replicate (length ws - from) 0
+
+-- what those n words were joined to is zero exactly if they are
+pub record Tells (ws : List ℕ) (from n seen : ℕ) : Type 0 where
+  pub words-zero : seen ≡ 0 → Zeros ws from n
+  pub seen-zero : Zeros ws from n → seen ≡ 0

@@ -3,7 +3,7 @@ ghost use mathlib.Core.Path.{_≡_};
 ghost use mathlib.Core.Bool.{true};
 ghost use Prim.Native.Nat.{_+_, _-_, _*_, _≤_};
 ghost use lib.ListN.{length, replicate};
-ghost use Rattle.words.specs.Words.{stored, moved, cleared, ZeroFrom};
+ghost use Rattle.words.specs.Words.{stored, moved, cleared, Tells, ZeroFrom};
 
 // 32 KiB, which the nearest cache of a processor holds.
 const MANY_WORDS: usize = 4096;
@@ -162,7 +162,34 @@ pub fn clear(t: &mut [u64], from: usize, to: usize)
     }
 }
 
-// Whether all words from `from` on are zero: joined bit by bit, one look at the end tells.
+// Four words joined bit by bit.
+fn joined_four(t: &[u64], at: usize) -> u64
+    requires { ⌜ at + 4 ≤ length (now t) ⌝ }
+    ensures { λ seen. ⌜ Tells (now (t .entry)) at 4 seen ⌝ }
+{
+    t[at] | t[at + 1] | t[at + 2] | t[at + 3]
+}
+
+// Sixteen of them.
+fn joined_sixteen(t: &[u64], at: usize) -> u64
+    requires { ⌜ at + 16 ≤ length (now t) ⌝ }
+    ensures { λ seen. ⌜ Tells (now (t .entry)) at 16 seen ⌝ }
+{
+    joined_four(t, at) | joined_four(t, at + 4) | joined_four(t, at + 8) | joined_four(t, at + 12)
+}
+
+// Sixty-four of them.
+fn joined_sixty_four(t: &[u64], at: usize) -> u64
+    requires { ⌜ at + 64 ≤ length (now t) ⌝ }
+    ensures { λ seen. ⌜ Tells (now (t .entry)) at 64 seen ⌝ }
+{
+    joined_sixteen(t, at)
+        | joined_sixteen(t, at + 16)
+        | joined_sixteen(t, at + 32)
+        | joined_sixteen(t, at + 48)
+}
+
+// Whether all words from `from` on are zero: one look at all of them joined.
 fn are_zero_from(t: &[u64], from: usize) -> bool
     requires { ⌜ from ≤ length (now t) ⌝ }
     ensures { λ b. ⌜ (b ≡ true → ZeroFrom (now (t .entry)) from) × (ZeroFrom (now (t .entry)) from → b ≡ true) ⌝ }
@@ -170,8 +197,13 @@ fn are_zero_from(t: &[u64], from: usize) -> bool
     let mut i = from;
     let mut seen: u64 = 0;
     while i < t.len() {
-        seen = seen | t[i];
-        i += 1;
+        if 64 <= t.len() - i {
+            seen = seen | joined_sixty_four(t, i);
+            i += 64;
+        } else {
+            seen = seen | t[i];
+            i += 1;
+        }
     }
     seen == 0
 }

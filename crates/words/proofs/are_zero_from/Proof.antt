@@ -4,7 +4,8 @@ use mathlib.Core.Path.{_≡_}
 use Prim.Native.Nat.{ℕ, _+_, _-_, _≤_}
 use native.Mathlib.Omega.{arith}
 use lib.ListN.{length}
-use Rattle.words.proofs.Zeros.{Tells, none-told, more-told, all-zero, zero-all}
+use Rattle.words.specs.Words.{Tells}
+use Rattle.words.proofs.Zeros.{none-tells, word-tells, more-tell, all-zero, zero-all}
 use borrow.Author.Needs.{needs}
 use borrow.Author.Tests.{eqb-true, eq-eqb}
 use Rattle.words.proofs.are_zero_from.Statement.{statement}
@@ -18,14 +19,15 @@ abbrev μ-loop : tie.MeasureT-loop
 
 loop-holds : tie.Need-loop-holds Inv-loop μ-loop
 loop-holds c =
-    let e : c .args .from - c .args .from ≡ 0 = omega arith in
-    (search needs, search needs, rw e (none-told (c .args .t .now) (c .args .from)))
+    let a = c .before .args in
+    let e : a .from - a .from ≡ 0 = omega arith in
+    (search needs, search needs, rw e (none-tells (a .t .now) (a .from)))
 
-mul-seen : tie.Need-mul-seen Inv-loop μ-loop
-mul-seen c = search needs
+sub-if1 : tie.Need-sub-if1 Inv-loop μ-loop
+sub-if1 c = search needs
 
-shared-slice-read-seen : tie.Need-shared-slice-read-seen Inv-loop μ-loop
-shared-slice-read-seen c = search needs
+joined-sixty-four-requires : tie.Need-joined-sixty-four-requires Inv-loop μ-loop
+joined-sixty-four-requires c κs = search needs
 
 add-i : tie.Need-add-i Inv-loop μ-loop
 add-i c = search needs
@@ -35,21 +37,36 @@ loop-less c = search needs
 
 loop-again : tie.Need-loop-again Inv-loop μ-loop
 loop-again c =
-    let a = c .before .before .before .args in
-    let l = c .before .before .loop in
-    let k : ℕ = l .i - a .from in
-    let at : a .from + k ≡ l .i = omega arith in
-    let e : l .i + 1 - a .from ≡ k + 1 = omega arith in
-    (search needs, search needs, rw e (rw at at (more-told (a .t .now) (a .from) k (l .seen) (omega arith) (l .inv .2))))
+    let a = c .before .before .before .before .before .args in
+    let l = c .before .before .before .loop in
+    (search needs, search needs, more-tell (a .t .now) (a .from) (l .i) 64 (omega arith) (omega arith) (l .inv .2) (c .joined-sixty-four .ensures))
+
+mul-seen : tie.Need-mul-seen Inv-loop μ-loop
+mul-seen c = search needs
+
+shared-slice-read-seen : tie.Need-shared-slice-read-seen Inv-loop μ-loop
+shared-slice-read-seen c = search needs
+
+add-i-2 : tie.Need-add-i-2 Inv-loop μ-loop
+add-i-2 c = search needs
+
+loop-less-2 : tie.Need-loop-less-2 Inv-loop μ-loop
+loop-less-2 c = search needs
+
+loop-again-2 : tie.Need-loop-again-2 Inv-loop μ-loop
+loop-again-2 c =
+    let a = c .before .before .before .before .before .args in
+    let l = c .before .before .before .loop in
+    (search needs, search needs, more-tell (a .t .now) (a .from) (l .i) 1 (omega arith) (omega arith) (l .inv .2) (word-tells (a .t .now) (l .i) (omega arith)))
 
 returns : tie.Need-returns Inv-loop μ-loop
 returns c =
-    let a = c .before .before .args in
+    let a = c .before .before .before .args in
     let l = c .before .loop in
     let e : l .i - a .from ≡ length (a .t .now) - a .from = omega arith in
     let told : Tells (a .t .now) (a .from) (length (a .t .now) - a .from) (l .seen) = rw e at (l .inv .2) in (
-      λ b. all-zero (a .t .now) (a .from) (omega arith) (told .words-zero (eqb-true (l .seen) 0 b)),
-      λ z. eq-eqb (l .seen) 0 (told .seen-zero (zero-all (a .t .now) (a .from) (omega arith) z)),
+      λ b. all-zero (a .t .now) (a .from) (told .words-zero (eqb-true (l .seen) 0 b)),
+      λ z. eq-eqb (l .seen) 0 (told .seen-zero (zero-all (a .t .now) (a .from) z)),
     )
 
 pub are-zero-from-spec : {M : Type 1} → statement M
@@ -59,9 +76,14 @@ are-zero-from-spec =
     Inv-loop
     μ-loop
     loop-holds
-    mul-seen
-    shared-slice-read-seen
+    sub-if1
+    joined-sixty-four-requires
     add-i
     loop-less
     loop-again
+    mul-seen
+    shared-slice-read-seen
+    add-i-2
+    loop-less-2
+    loop-again-2
     returns)
