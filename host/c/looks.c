@@ -10,8 +10,11 @@
 
 #include "waylluqen.h"
 
-static uint64_t table[WAYLLUQEN_TABLE_WORDS(WAYLLUQEN_MAX_MAPPINGS)] __attribute__((aligned(65536)));
-static volatile uint64_t marks[2] __attribute__((aligned(65536)));
+/* Aligned so that all but the last five hexadecimal digits of an address tell which of the two it is in. */
+#define APART (1 << 20)
+static uint64_t table[WAYLLUQEN_TABLE_WORDS(WAYLLUQEN_MAX_MAPPINGS)] __attribute__((aligned(APART)));
+static volatile uint64_t marks[2] __attribute__((aligned(APART)));
+_Static_assert(sizeof table <= APART, "the table's addresses differ in the last five digits alone");
 
 int main(int argc, char **argv)
 {
@@ -25,8 +28,9 @@ int main(int argc, char **argv)
         table[4 * i + 1] = page;
         table[4 * i + 2] = 7;
     }
-    /* In a long table not every page is asked for, since a trace is long. */
-    const size_t step = count > 64 ? 29 : 1;
+    /* In a long table not every page is asked for, since a trace is long. Of 4,095 and of 4,096 mappings the last
+     * page asked for is 8,190: behind the last mapping, and in it. */
+    const size_t step = count > 512 ? 585 : count > 64 ? 29 : 1;
     printf("at %08" PRIxPTR " %08" PRIxPTR " %zu\n", (uintptr_t)table, (uintptr_t)marks, step);
     fflush(stdout);
 
