@@ -74,6 +74,10 @@ struct test_case {
     {name, DRAWN, request, expected, ROOM(1, 8), {old}, new, list, 0}
 #define OVER_NONE(name, request, expected, new, list) \
     {name, DRAWN, request, expected, ROOM(0, 8), {NONE}, new, list, 0}
+/* A map into an empty table, with as many operation words as are needed. */
+#define INTO_EMPTY(name, capacity) \
+    {name, COMMON, GOOD_MAP, GRANTED(1, 1), ROOM(0, capacity), {NONE}, \
+     {{0x100000, PAGE, 5, 0}}, {MAPS(LIST(0x100000, PAGE, 5, 0))}, 0}
 
 static const struct test_case grants[] = {
     /* The drawings. */
@@ -309,9 +313,11 @@ static const struct test_case grants[] = {
      {REMAPS(0, LIST(0, LIMIT, 7, 0), NONE, LIST(PAGE, LIMIT - PAGE, 7, PAGE))}, 0},
     {"first and last page of a space", FREE, REQUEST(1, 0x100000, 0x100000, 0, 0), GRANTED(0, 0),
      ROOM(0, 1), {NONE}, {NONE}, {MAPS(NONE)}, 0},
-    /* 2 and 3: the longest table, and more operation words than are needed. */
-    {"room for 512", COMMON, GOOD_MAP, GRANTED(1, 1), ROOM(0, 512), {NONE},
-     {{0x100000, PAGE, 5, 0}}, {MAPS(LIST(0x100000, PAGE, 5, 0))}, 0},
+    /* 2 and 3: up to the longest table, and more operation words than are needed. */
+    INTO_EMPTY("room for 512", 512),
+    INTO_EMPTY("room for 513", 513),
+    INTO_EMPTY("room for 4095", 4095),
+    INTO_EMPTY("room for 4096", 4096),
     {"a word more", COMMON, GOOD_MAP, GRANTED(1, 1), ROOM(0, 3), {NONE}, {{0x100000, PAGE, 5, 0}},
      {MAPS(LIST(0x100000, PAGE, 5, 0))}, 1},
     {"an operation more", COMMON, GOOD_UNMAP, GRANTED(0, 0), ROOM(0, 3), {NONE}, {NONE},
@@ -408,8 +414,10 @@ static const struct refusal_case refusals[] = {
     LENGTH("length 6", 1, 6),
     LENGTH("length 2047", 5, 2047),
     LENGTH("length 2049", 5, 2049),
-    LENGTH("length 2052", 5, 2052),
-    LENGTH("length 3000", 5, LONGEST_TABLE),
+    LENGTH("length 16383", 5, 16383),
+    LENGTH("length 16385", 5, 16385),
+    LENGTH("length 16388", 5, 16388),
+    LENGTH("length 20000", 5, LONGEST_TABLE),
 
     /* 3: the operation words, by what there is room for and not by the count. */
     SHORT("a word less", 5, 6, -1),
@@ -418,6 +426,8 @@ static const struct refusal_case refusals[] = {
     SHORT("an operation less", 5, 6, -OPERATION_WORDS),
     SHORT("as many as mappings and a map", 5, 12, -6 * OPERATION_WORDS),
     SHORT("a word less, room for 512", 5, 512, -1),
+    SHORT("a word less, room for 4096", 5, 4096, -1),
+    SHORT("as many as for room for 512", 5, 4096, -(4096 - 512) * OPERATION_WORDS),
     SHORT("none", 0, 1, -2 * OPERATION_WORDS),
 
     /* 4: the count. */
@@ -425,6 +435,7 @@ static const struct refusal_case refusals[] = {
     COUNT("count of the words", 20),
     COUNT("count 2^62 above", (UINT64_C(1) << 62) + 5),
     COUNT("highest count", UINT64_MAX),
+    {"count above the most", REFUSED(4, 4097), COMMON, GOOD_MAP, ROOM(4097, 4096), FIVE, 0},
 
     /* 5: the mappings. */
     ALONE("mapping's address one above", 0x100001, PAGE, 7, 0),
@@ -555,7 +566,7 @@ static const struct record_case records[] = {
     {"1 after the record", 1, {0, 0, 0, 0, 1, 1, 0}, RECORD_BYTES, 1},
 };
 
-/* A full table of 512: place p has pages [4p, 4p + 3), object p + 1. */
+/* A full table of 4,096: place p has pages [4p, 4p + 3), object p + 1; a bad place object 0. */
 struct full_case {
     const char *name;
     waylluqen_request request;
@@ -567,18 +578,22 @@ struct full_case {
 #define FULL_SPACE {0, 4 * MOST_MAPPINGS * PAGE, 0, 0}
 
 static const struct full_case full_cases[] = {
-    {"the first of 512 replaced", MAP(0, 3, 600, 0), GRANTED(2, 512), 0, 1},
-    {"one of 512 replaced", MAP(1024, 1027, 600, 0), GRANTED(2, 512), 256, 257},
-    {"the last of 512 replaced", MAP(2044, 2047, 600, 0), GRANTED(2, 512), 511, 512},
-    {"two of 512 replaced", MAP(1023, 1032, 600, 0), GRANTED(3, 511), 256, 258},
-    {"all of 512 replaced", MAP(0, 2048, 600, 0), GRANTED(513, 1), 0, 512},
-    {"the first of 512 unmapped", UNMAP(0, 4), GRANTED(1, 511), 0, 1},
-    {"the last of 512 unmapped", UNMAP(2043, 2048), GRANTED(1, 511), 511, 512},
-    {"all of 512 unmapped", UNMAP(0, 2048), GRANTED(512, 0), 0, 512},
-    {"nothing of 512 unmapped", UNMAP(1023, 1024), GRANTED(0, 512), 256, 256},
-    {"into a gap of 512", MAP(1023, 1024, 600, 0), REFUSED(11, 512), 0, 0},
-    {"a hole in one of 512", UNMAP(1025, 1026), REFUSED(11, 512), 0, 0},
-    {"half of one of 512 replaced", MAP(1024, 1026, 600, 0), REFUSED(11, 512), 0, 0},
+    {"the first of 4096 replaced", MAP(0, 3, 5000, 0), GRANTED(2, 4096), 0, 1},
+    {"one of 4096 replaced", MAP(8192, 8195, 5000, 0), GRANTED(2, 4096), 2048, 2049},
+    {"the last of 4096 replaced", MAP(16380, 16383, 5000, 0), GRANTED(2, 4096), 4095, 4096},
+    {"two of 4096 replaced", MAP(8191, 8200, 5000, 0), GRANTED(3, 4095), 2048, 2050},
+    {"all of 4096 replaced", MAP(0, 16384, 5000, 0), GRANTED(4097, 1), 0, 4096},
+    {"the first of 4096 unmapped", UNMAP(0, 4), GRANTED(1, 4095), 0, 1},
+    {"from 512 of 4096 on unmapped", UNMAP(2047, 16384), GRANTED(3584, 512), 512, 4096},
+    {"the last of 4096 unmapped", UNMAP(16379, 16384), GRANTED(1, 4095), 4095, 4096},
+    {"all of 4096 unmapped", UNMAP(0, 16384), GRANTED(4096, 0), 0, 4096},
+    {"nothing of 4096 unmapped", UNMAP(8191, 8192), GRANTED(0, 4096), 2048, 2048},
+    {"into a gap of 4096", MAP(8191, 8192, 5000, 0), REFUSED(11, 4096), 0, 0},
+    {"a hole in one of 4096", UNMAP(8193, 8194), REFUSED(11, 4096), 0, 0},
+    {"half of one of 4096 replaced", MAP(8192, 8194, 5000, 0), REFUSED(11, 4096), 0, 0},
+    {"bad at 0 of 4096", MAP(0, 3, 5000, 0), BAD_PLACE(0, 4096), 0, 0},
+    {"bad at 2048 of 4096", MAP(0, 3, 5000, 0), BAD_PLACE(2048, 4096), 0, 0},
+    {"bad at 4095 of 4096", UNMAP(0, 16384), BAD_PLACE(4095, 4096), 0, 0},
 };
 
 static struct lent lent_table;
@@ -615,6 +630,10 @@ static int is_same(waylluqen_answer one, waylluqen_answer other)
 static int is_changed(const char *name, const char *what, const uint8_t *memory,
                       const uint8_t *expected, size_t bytes, const uint64_t *words)
 {
+    /* At once, since the memory is long. */
+    if (memcmp(memory, expected, bytes) == 0) {
+        return 0;
+    }
     for (size_t at = 0; at < bytes; at += sizeof(uint64_t)) {
         if (memcmp(memory + at, expected + at, sizeof(uint64_t)) != 0) {
             uint64_t should, is;
@@ -792,6 +811,9 @@ static int run_full(const struct full_case *test)
     size_t operations = 0;
     for (size_t place = 0; place < MOST_MAPPINGS; place++) {
         old[place] = (struct mapping)P(4 * place, 4 * place + 3, place + 1, place);
+    }
+    if (test->expected.refusal == WAYLLUQEN_REFUSED_BAD_MAPPING) {
+        old[test->expected.place].object = 0;
     }
     for (size_t place = test->first_hit; place < test->hit_end; place++) {
         list[operations++] = (struct operation){WAYLLUQEN_KIND_UNMAP, 0, old[place], NONE, NONE};

@@ -256,8 +256,8 @@ static enum outcome finish(struct address_space *space, const struct table *befo
     return CARRIED_OUT;
 }
 
-/* The copy is 32 bytes for each mapping that there is room for. With room for 512 that is too much
- * for a kernel stack: a driver then has it beside the table. */
+/* The copy is 32 bytes for each mapping that there is room for: up to 128 KiB, which is too much for
+ * a kernel stack. With much room a driver has it beside the table. */
 static enum outcome bind(struct address_space *space, waylluqen_request request)
 {
     struct table before = space->table;

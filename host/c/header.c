@@ -60,13 +60,13 @@ SAME(WAYLLUQEN_RECORD_RANGE, 4 * 4 + 2 * 8);
 SAME(WAYLLUQEN_RECORD_BYTES, 4 * 4 + 3 * 8);
 
 SAME(WAYLLUQEN_PAGE_SIZE, 4096);
-SAME(WAYLLUQEN_MAX_MAPPINGS, 512);
+SAME(WAYLLUQEN_MAX_MAPPINGS, 4096);
 SAME(WAYLLUQEN_LIMIT, 281474976710656ull);
 SAME(WAYLLUQEN_MAX_OBJECT, 4294967295ull);
 
-/* The longest table has 2,048 words. */
-typedef char longest_table[WAYLLUQEN_TABLE_WORDS(WAYLLUQEN_MAX_MAPPINGS) == 2048 ? 1 : -1];
-typedef char longest_list[WAYLLUQEN_OPERATION_LIST_WORDS(511 + 1) == 513 * 14 ? 1 : -1];
+/* The longest table has 16,384 words. */
+typedef char longest_table[WAYLLUQEN_TABLE_WORDS(WAYLLUQEN_MAX_MAPPINGS) == 16384 ? 1 : -1];
+typedef char longest_list[WAYLLUQEN_OPERATION_LIST_WORDS(4095 + 1) == 4097 * 14 ? 1 : -1];
 
 LONG(waylluqen_space, 4);
 AT(waylluqen_space, start, 0);

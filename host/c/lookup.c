@@ -109,8 +109,13 @@ static const struct test_case cases[] = {
     {"length 2047", REFUSED(2), COMMON, 0x100000, 5, 2047, FIVE},
     {"length 2048", SHOWS(7, 0x3000), COMMON, 0x100000, 5, 2048, FIVE},
     {"length 2049", REFUSED(2), COMMON, 0x100000, 5, 2049, FIVE},
-    {"length 2052", REFUSED(2), COMMON, 0x100000, 5, 2052, FIVE},
-    {"length 3000", REFUSED(2), COMMON, 0x100000, 5, LONGEST_TABLE, FIVE},
+    {"length 2052", SHOWS(7, 0x3000), COMMON, 0x100000, 5, 2052, FIVE},
+    {"length 16380", SHOWS(7, 0x3000), COMMON, 0x100000, 5, 16380, FIVE},
+    {"length 16383", REFUSED(2), COMMON, 0x100000, 5, 16383, FIVE},
+    {"length 16384", SHOWS(7, 0x3000), COMMON, 0x100000, 5, 16384, FIVE},
+    {"length 16385", REFUSED(2), COMMON, 0x100000, 5, 16385, FIVE},
+    {"length 16388", REFUSED(2), COMMON, 0x100000, 5, 16388, FIVE},
+    {"length 20000", REFUSED(2), COMMON, 0x100000, 5, LONGEST_TABLE, FIVE},
     {"length before count", REFUSED(2), COMMON, 0x100000, UINT64_MAX, 7, FIVE},
     {"length 0 before count", REFUSED(2), COMMON, 0x100000, 1, 0, FIVE},
     {"length before mappings", REFUSED(2), COMMON, 0x100000, 1, 7, {ONES}},
@@ -125,7 +130,8 @@ static const struct test_case cases[] = {
     {"count 2^32 above", REFUSED(4), COMMON, 0x100000, (UINT64_C(1) << 32) + 5, 20, FIVE},
     {"count 2^62 above", REFUSED(4), COMMON, 0x100000, (UINT64_C(1) << 62) + 5, 20, FIVE},
     {"highest count", REFUSED(4), COMMON, 0x100000, UINT64_MAX, 20, FIVE},
-    {"count above the most", REFUSED(4), COMMON, 0x100000, 513, 2048, FIVE},
+    {"count 513 of 512", REFUSED(4), COMMON, 0x100000, 513, 2048, FIVE},
+    {"count above the most", REFUSED(4), COMMON, 0x100000, 4097, 16384, FIVE},
     {"count before mappings", REFUSED(4), COMMON, 0x100000, 2, 4, {ONES}},
     {"bad mapping behind the count", SHOWS(7, 0x3000), COMMON, 0x100000, 1, 8, {FIRST, ONES}},
     {"bad mapping at the count", BAD_PLACE(1), COMMON, 0x100000, 2, 8, {FIRST, ONES}},
@@ -220,15 +226,18 @@ struct full_case {
 };
 
 static const struct full_case full_cases[] = {
-    {"first of 512", SHOWS(1, 0), 0, MOST_MAPPINGS},
-    {"last byte of the first of 512", SHOWS(1, 0xfff), 0xfff, MOST_MAPPINGS},
-    {"in the middle of 512", SHOWS(257, 0x200005), 0x100005, MOST_MAPPINGS},
-    {"last of 512", SHOWS(512, 0x3fe000), 0x1ff000, MOST_MAPPINGS},
-    {"last byte of 512", SHOWS(512, 0x3fefff), 0x1fffff, MOST_MAPPINGS},
-    {"behind 512", NOTHING, 0x200000, MOST_MAPPINGS},
-    {"bad at 0 of 512", BAD_PLACE(0), 0x1ff000, 0},
-    {"bad at 256 of 512", BAD_PLACE(256), 0, 256},
-    {"bad at 511 of 512", BAD_PLACE(511), 0, 511},
+    {"first of 4096", SHOWS(1, 0), 0, MOST_MAPPINGS},
+    {"last byte of the first of 4096", SHOWS(1, 0xfff), 0xfff, MOST_MAPPINGS},
+    {"at 511 of 4096", SHOWS(512, 0x3fefff), 0x1fffff, MOST_MAPPINGS},
+    {"at 512 of 4096", SHOWS(513, 0x400000), 0x200000, MOST_MAPPINGS},
+    {"in the middle of 4096", SHOWS(2049, 0x1000005), 0x800005, MOST_MAPPINGS},
+    {"last of 4096", SHOWS(4096, 0x1ffe000), 0xfff000, MOST_MAPPINGS},
+    {"last byte of 4096", SHOWS(4096, 0x1ffefff), 0xffffff, MOST_MAPPINGS},
+    {"behind 4096", NOTHING, 0x1000000, MOST_MAPPINGS},
+    {"bad at 0 of 4096", BAD_PLACE(0), 0xfff000, 0},
+    {"bad at 512 of 4096", BAD_PLACE(512), 0, 512},
+    {"bad at 2048 of 4096", BAD_PLACE(2048), 0, 2048},
+    {"bad at 4095 of 4096", BAD_PLACE(4095), 0, 4095},
 };
 
 static struct lent lent;
@@ -293,14 +302,14 @@ static int run_full_case(const struct full_case *full)
 {
     struct test_case test = {full->name, full->expected, WIDEST, full->address,
                              FULL(MOST_MAPPINGS), {{0}}};
-    struct mapping table[MOST_MAPPINGS];
+    static struct mapping table[MOST_MAPPINGS];
     for (size_t place = 0; place < MOST_MAPPINGS; place++) {
         table[place].address = place * PAGE;
         table[place].size = PAGE;
         table[place].object = place == full->bad_place ? 0 : place + 1;
         table[place].offset = place * 2 * PAGE;
     }
-    uint64_t words[MOST_MAPPINGS * MAPPING_WORDS];
+    static uint64_t words[MOST_MAPPINGS * MAPPING_WORDS];
     memcpy(words, table, sizeof words);
     return differs(&test, words);
 }

@@ -17,8 +17,8 @@
 
 #define RECORD_BYTES 40
 #define MAPPING_WORDS WAYLLUQEN_MAPPING_WORDS
-#define MOST_MAPPINGS 512
-#define LONGEST_TABLE 3000
+#define MOST_MAPPINGS 4096
+#define LONGEST_TABLE 20000
 
 _Static_assert(sizeof(waylluqen_space) == 32, "four words, without a gap");
 

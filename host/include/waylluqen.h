@@ -49,7 +49,7 @@ extern "C" {
 #define WAYLLUQEN_VERSION_MAJOR 0
 #define WAYLLUQEN_VERSION_MINOR 1
 #define WAYLLUQEN_VERSION_PATCH 0
-#define WAYLLUQEN_INTERFACE waylluqen_interface_2
+#define WAYLLUQEN_INTERFACE waylluqen_interface_3
 
 /**
  * DOC: What the caller ensures
@@ -80,10 +80,13 @@ extern "C" {
  * A page is %WAYLLUQEN_PAGE_SIZE bytes. Neither a space nor a mapping's part of its object goes
  * above %WAYLLUQEN_LIMIT. An object is a number from 1 to %WAYLLUQEN_MAX_OBJECT. A table has
  * room for 1 to %WAYLLUQEN_MAX_MAPPINGS mappings.
+ *
+ * With room for the most, a table has 131,072 bytes and its list of operations 458,864: neither
+ * is for a kernel's stack.
  */
 enum {
     WAYLLUQEN_PAGE_SIZE = 4096,
-    WAYLLUQEN_MAX_MAPPINGS = 512
+    WAYLLUQEN_MAX_MAPPINGS = 4096
 };
 #define WAYLLUQEN_LIMIT ((uint64_t)1 << 48)
 #define WAYLLUQEN_MAX_OBJECT ((uint64_t)0xffffffff)

@@ -249,8 +249,8 @@ impl Stored {
 }
 
 impl AddressSpace {
-    /// The copy is 32 bytes for each mapping that there is room for. With room for 512 that is too
-    /// much for a kernel stack: a driver then has it beside the table.
+    /// The copy is 32 bytes for each mapping that there is room for: up to 128 KiB, which is too
+    /// much for a kernel stack. With much room a driver has it beside the table.
     fn bind(&mut self, request: Request) -> Result<(), Failure> {
         let before = self.table;
         let mut table = Table::with_count(&mut self.table.words, self.table.count);

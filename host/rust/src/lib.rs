@@ -88,16 +88,20 @@ pub const LIMIT: u64 = 1 << 48;
 /// ```
 pub const MAX_OBJECT: u64 = 0xffff_ffff;
 
-/// A table has room for 1 to this many mappings.
+/// A table has room for 1 to this many mappings. With room for so many it has 131,072 bytes, and
+/// the operation words for it have 458,864: too much for a stack.
 ///
 /// ```
 /// use waylluqen::{table_words, Refusal, Space, Table, MAX_MAPPINGS, PAGE_SIZE};
 ///
-/// let mut words = [0; table_words(MAX_MAPPINGS + 1)];
-/// let refused = Table::empty(&mut words).lookup(Space::new(0, PAGE_SIZE), 0);
+/// let space = Space::new(0, PAGE_SIZE);
+/// let mut words = vec![0; table_words(MAX_MAPPINGS)];
+/// assert_eq!(Table::empty(&mut words).lookup(space, 0), Ok(None));
+/// words.resize(table_words(MAX_MAPPINGS + 1), 0);
+/// let refused = Table::empty(&mut words).lookup(space, 0);
 /// assert_eq!(refused, Err(Refusal::BadTableLength));
 /// ```
-pub const MAX_MAPPINGS: usize = 512;
+pub const MAX_MAPPINGS: usize = 4096;
 
 /// A mapping in a table is this many words: address, size, object, offset.
 ///

@@ -4,7 +4,7 @@ use crate::bind::least_operation_words;
 use crate::{answer, mapping_holds, space_holds, Mapping, Refused, Space, MAPPING_WORDS};
 
 /// A table has room for one mapping at least and for this many at most.
-pub const MOST_MAPPINGS: usize = 512;
+pub const MOST_MAPPINGS: usize = 4096;
 
 /// Whether a table may have this many words.
 pub fn length_holds(words: usize) -> bool {

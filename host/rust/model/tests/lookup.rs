@@ -129,14 +129,15 @@ fn spaces_that_break_their_rules() {
 
 #[test]
 fn lengths() {
-    let zeros = [0; 3000];
-    let bad = [0, 1, 2, 3, 5, 6, 7, 9, 2046, 2047, 2049, 2050, 2052, 3000];
-    for bad in bad {
+    let zeros = [0; 20_000];
+    let uneven = [1, 2, 3, 5, 6, 7, 9, 2047, 2049, 16_382, 16_383, 16_385, 16_386];
+    for bad in uneven.into_iter().chain([0, 16_388, 20_000]) {
         assert_eq!(lookup(&COMMON, &zeros[..bad], 0, 0), refused(2), "{bad}");
         // The length comes before the count.
-        assert_eq!(lookup(&COMMON, &zeros[..bad], 3000, 0), refused(2), "{bad}");
+        let counted = lookup(&COMMON, &zeros[..bad], 20_000, 0);
+        assert_eq!(counted, refused(2), "{bad}");
     }
-    for good in [4, 8, 12, 2044, 2048] {
+    for good in [4, 8, 12, 2044, 2048, 2052, 16_380, 16_384] {
         assert_eq!(lookup(&COMMON, &zeros[..good], 0, 0), NOTHING, "{good}");
     }
 }
@@ -283,19 +284,24 @@ fn lowest_place() {
 
 #[test]
 fn a_full_table() {
-    // 512 pages without a gap; object p + 1 at place p.
+    // 4,096 pages without a gap; object p + 1 at place p.
     let page = |place: u64| [place * PAGE, PAGE, place + 1, place * 2 * PAGE];
-    let mut table: Vec<Words> = (0..512).map(page).collect();
+    let mut table: Vec<Words> = (0..4096).map(page).collect();
     assert_eq!(look(&WIDEST, &table, 0), shows(1, 0));
     assert_eq!(look(&WIDEST, &table, 0xfff), shows(1, 0xfff));
-    assert_eq!(look(&WIDEST, &table, 0x10_0005), shows(257, 0x20_0005));
     assert_eq!(look(&WIDEST, &table, 0x1f_ffff), shows(512, 0x3f_efff));
-    assert_eq!(look(&WIDEST, &table, 0x20_0000), NOTHING);
-    table.push([0x20_0000, PAGE, 513, 0]);
+    assert_eq!(look(&WIDEST, &table, 0x20_0000), shows(513, 0x40_0000));
+    assert_eq!(look(&WIDEST, &table, 0x80_0005), shows(2049, 0x100_0005));
+    assert_eq!(look(&WIDEST, &table, 0xff_ffff), shows(4096, 0x1ff_efff));
+    assert_eq!(look(&WIDEST, &table, 0x100_0000), NOTHING);
+    assert_eq!(lookup(&WIDEST, &table.concat(), 4097, 0), refused(4));
+    table.push([0x100_0000, PAGE, 4097, 0]);
     assert_eq!(look(&WIDEST, &table, 0), refused(2));
     table.pop();
-    table[511][2] = 0;
-    assert_eq!(look(&WIDEST, &table, 0), bad_mapping(511));
+    table[4095][2] = 0;
+    assert_eq!(look(&WIDEST, &table, 0), bad_mapping(4095));
+    table[512][2] = 0;
+    assert_eq!(look(&WIDEST, &table, 0), bad_mapping(512));
     table[0][2] = 0;
     assert_eq!(look(&WIDEST, &table, 0), bad_mapping(0));
 }
@@ -303,6 +309,6 @@ fn a_full_table() {
 #[test]
 fn an_empty_table() {
     assert_eq!(lookup(&COMMON, &[0; 4], 0, 0x10_0000), NOTHING);
-    assert_eq!(lookup(&COMMON, &[u64::MAX; 2048], 0, 0x10_0000), NOTHING);
+    assert_eq!(lookup(&COMMON, &[u64::MAX; 16_384], 0, 0x10_0000), NOTHING);
     assert_eq!(lookup(&COMMON, &[0; 4], 1, 0x10_0000), bad_mapping(0));
 }
