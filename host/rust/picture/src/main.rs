@@ -46,7 +46,7 @@ options:
               none, the picture goes from the first mapping to the last
   --grant N   the request of the N-th granted line of the text, counted from 1; else the last
   --table     the file is a saved table: the lent words as bytes, 64-bit little-endian, four a
-              mapping, 512 mappings at most, up to the first whose size is 0
+              mapping, 4096 mappings at most, up to the first whose size is 0
   -h, --help  show this help message and exit
 
 A text has at most 256 MiB. One that does not replay is told on standard error with its line,

@@ -4,7 +4,7 @@ use crate::mapping::Mapping;
 
 const WORD: usize = 8;
 const MAPPING: usize = 4 * WORD;
-pub const MOST_MAPPINGS: usize = 512;
+pub const MOST_MAPPINGS: usize = 4096;
 
 /// What is read of a table, in MiB: above any table's size, so that a file is told with its own.
 pub const MOST_READ: u64 = 1;
@@ -73,16 +73,18 @@ mod tests {
         let mappings = two.map(|words| Mapping::of(words).unwrap());
         assert_eq!(table(&bytes(&two)).unwrap(), mappings);
         assert_eq!(table(&bytes(&[two[0], two[1], [0; 4]])).unwrap(), mappings);
-        assert_eq!(table(&[0; 16384]).unwrap(), []);
+        assert_eq!(table(&[0; 131_072]).unwrap(), []);
+        let full: Vec<[u64; 4]> = (0..4096).map(|at| [at << 12, 4096, 7, 0]).collect();
+        assert_eq!(table(&bytes(&full)).unwrap().len(), 4096);
     }
 
     #[test]
     fn what_is_no_table_is_told() {
-        for length in [0, 31, 33, 16416] {
+        for length in [0, 31, 33, 131_071, 131_104] {
             let told = table(&vec![0; length]).unwrap_err();
             assert_eq!(
                 told,
-                format!("a table has 1 to 512 times 32 bytes, not {length}")
+                format!("a table has 1 to 4096 times 32 bytes, not {length}")
             );
         }
         let (first, second) = ([4096, 4096, 7, 0], [8192, 4096, 7, 4096]);

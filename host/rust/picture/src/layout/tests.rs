@@ -54,7 +54,7 @@ fn layouts() -> Vec<Layout> {
     }
     let far = |at: u64| [at << 30, PAGE << (at % 20), at + 1, 0];
     out.push(layout_around(&table(
-        &(0..512).map(far).collect::<Vec<_>>(),
+        &(0..4096).map(far).collect::<Vec<_>>(),
     )));
     out
 }

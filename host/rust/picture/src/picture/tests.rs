@@ -111,7 +111,7 @@ fn nor_in_a_table_alone() {
     check(&table([[0x5000, 0x3000, 7, 0]].into_iter()));
     check(&table((0..40).map(|at| [at << 13, 0x1000, at + 1, 0])));
     check(&table(
-        (0..512).map(|at| [at << 16, 0x3000, at + 1, 0x3000 * at]),
+        (0..4096).map(|at| [at << 16, 0x3000, at + 1, 0x3000 * at]),
     ));
     let last = (1 << 48) - 0x1000;
     let ends = [

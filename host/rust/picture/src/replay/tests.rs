@@ -141,19 +141,19 @@ fn maps(count: u64) -> String {
 
 #[test]
 fn a_table_has_an_end() {
-    let full = replay(maps(512), None).unwrap();
-    assert_eq!((full.grants, full.table.len()), (512, 512));
-    let told = "a table has no more than 512 mappings".to_string();
-    assert_eq!(told_of(maps(513)), (1026, told));
+    let full = replay(maps(4096), None).unwrap();
+    assert_eq!((full.grants, full.table.len()), (4096, 4096));
+    let told = "a table has no more than 4096 mappings".to_string();
+    assert_eq!(told_of(maps(4097)), (8194, told));
 }
 
 #[test]
 fn a_request_has_an_end() {
     let pairs = "map 0 4096 7 0\nunmap 0 4096 7 0 keep 0\n";
-    let all = format!("granted 513 1\n{}map 0 4096 7 0", pairs.repeat(256));
+    let all = format!("granted 4097 1\n{}map 0 4096 7 0", pairs.repeat(2048));
     let grant = replay(all, None).unwrap().wanted.unwrap();
-    assert_eq!(grant.operations.len(), 513);
-    let told = "a request has no more than 513 operations".to_string();
-    let more = format!("granted 999999 0\n{}", pairs.repeat(257));
-    assert_eq!(told_of(more), (515, told));
+    assert_eq!(grant.operations.len(), 4097);
+    let told = "a request has no more than 4097 operations".to_string();
+    let more = format!("granted 999999 0\n{}", pairs.repeat(2049));
+    assert_eq!(told_of(more), (4099, told));
 }
