@@ -8,8 +8,20 @@ use waylluqen_model::random::Random;
 use waylluqen_model::{Mapping, Space, HIGHEST_OBJECT, MAPPING_WORDS, MOST_MAPPINGS};
 use waylluqen_model::{OPERATION_WORDS, PAGE};
 
+/// Many, but quick to compare: only some of the tables are larger.
+pub const MANY_MAPPINGS: usize = 512;
+
 pub const MOST_WORDS: usize = MOST_MAPPINGS * MAPPING_WORDS;
-pub const LONGEST_TABLE: usize = 2 * MOST_WORDS;
+pub const LONGEST_TABLE: usize = MOST_WORDS + MOST_WORDS / 4;
+
+/// How many mappings a table is to have at most: once in `times` as many as it may, else many.
+pub fn some_most(random: &mut Random, times: u64) -> usize {
+    if random.once_in(times) {
+        MOST_MAPPINGS
+    } else {
+        MANY_MAPPINGS
+    }
+}
 
 /// A space and a table for it: any numbers and any words.
 #[derive(Clone)]
@@ -253,16 +265,22 @@ pub fn other_count(random: &mut Random, mappings: u64, words: u64) -> u64 {
     }
 }
 
-/// Another length: short, beside the present one, about the longest, or longer.
+/// Another length: short, beside the present one, about that of a large table, or any.
 pub fn other_length(random: &mut Random, present: usize) -> usize {
+    let large = some_most(random, 8) * MAPPING_WORDS;
     match random.below(6) {
         0 => random.below(9) as usize,
         1 => present + 1 + random.below(8) as usize,
         2 => present.saturating_sub(1 + random.below(8) as usize),
-        3 => MOST_WORDS - 8 + random.below(17) as usize,
-        4 => MOST_WORDS + MAPPING_WORDS,
-        _ => random.below(LONGEST_TABLE as u64) as usize,
+        3 => large - 8 + random.below(17) as usize,
+        4 => large + MAPPING_WORDS,
+        _ => any_length(random, large),
     }
+}
+
+/// Any length, up to somewhat more than a large table has.
+fn any_length(random: &mut Random, large: usize) -> usize {
+    random.below((large + large / 4) as u64) as usize
 }
 
 /// Damages one word or mapping, anywhere in the table.
@@ -325,9 +343,12 @@ pub fn any_table(random: &mut Random) -> Table {
         _ => good_space(random),
     };
     let length = match random.below(8) {
-        0 => random.below(40),
-        1 => random.below(LONGEST_TABLE as u64),
-        _ => MAPPING_WORDS as u64 * (1 + random.below(8)),
+        0 => random.below(40) as usize,
+        1 => {
+            let large = some_most(random, 8) * MAPPING_WORDS;
+            any_length(random, large)
+        }
+        _ => MAPPING_WORDS * (1 + random.below(8) as usize),
     };
     // Random numbers alone would almost never be multiples of a page.
     let word = |_| match random.below(4) {
@@ -337,7 +358,7 @@ pub fn any_table(random: &mut Random) -> Table {
         _ => other64(random, &space, 0),
     };
     let words = (0..length).map(word).collect();
-    let count = other_count(random, 1, length);
+    let count = other_count(random, 1, length as u64);
     Table {
         space,
         words,
@@ -395,6 +416,19 @@ pub fn plain_spaces() -> [Space; 6] {
         [LIMIT - 2048 * PAGE, 2048 * PAGE, LIMIT - PAGE, PAGE],
         [16 * PAGE, 600 * PAGE, 300 * PAGE, PAGE],
         [16 * PAGE, 512 * PAGE, 0, 0],
+    ]
+    .map(space_of)
+}
+
+/// Spaces that have room for every table, one of them for no mapping more; and some with a
+/// reservation at an end or between.
+pub fn large_spaces() -> [Space; 4] {
+    const MOST: u64 = MOST_MAPPINGS as u64;
+    [
+        [0, LIMIT, 1 << 32, 1 << 32],
+        [16 * PAGE, MOST * PAGE, 0, 0],
+        [0, (MOST + 600) * PAGE, 0, 300 * PAGE],
+        [LIMIT - 2 * MOST * PAGE, 2 * MOST * PAGE, LIMIT - PAGE, PAGE],
     ]
     .map(space_of)
 }

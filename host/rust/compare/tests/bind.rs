@@ -8,8 +8,8 @@ use waylluqen_compare::numbers::{space_of, LIMIT};
 use waylluqen_compare::paging::assert_pages;
 use waylluqen_compare::requests::{good_record, place, LONGEST_RECORD};
 use waylluqen_compare::tables::{
-    any_table, fill_space, good_table, plain_spaces, small_spaces, some_operation_words, Good,
-    Table,
+    any_table, fill_space, good_table, large_spaces, plain_spaces, small_spaces,
+    some_operation_words, Good, Table, MANY_MAPPINGS,
 };
 use waylluqen_model::bind::{least_operation_words, KIND_MAP};
 use waylluqen_model::random::Random;
@@ -139,6 +139,13 @@ impl Tally {
         assert_each(&self.marks.forms(), least);
     }
 
+    /// Every number of hits and every kind of rest came, and so did full tables.
+    fn assert_edges(&self) {
+        assert!(self.hits.iter().all(|&times| times >= 100));
+        assert!(self.rests.iter().all(|&times| times >= 20));
+        assert!(self.refused[11] >= 100 && self.freed >= 100);
+    }
+
     /// Seen with `cargo test -- --nocapture`.
     fn print(&self, test: &str) {
         println!(
@@ -178,12 +185,12 @@ fn good_tables_and_those_near_them() {
     let mut tally = Tally::new(102);
     for turn in 0..TABLES {
         // Small tables are quick; some are as large as they may be.
-        let largest = if turn % 256 == 0 {
-            MOST_MAPPINGS as u64
-        } else {
-            12
+        let largest = match turn % 256 {
+            0 => MOST_MAPPINGS,
+            128 => MANY_MAPPINGS,
+            _ => 12,
         };
-        let good = good_table(&mut random, largest);
+        let good = good_table(&mut random, largest as u64);
         let spare = random
             .pick(&[0, 0, 1, 2, 3])
             .min(MOST_MAPPINGS - good.mappings.len());
@@ -232,34 +239,58 @@ fn any_words() {
     assert!(tally.granted.iter().all(|&times| times >= 1000));
 }
 
-/// Each op with each range between two of the ends, in tables that are full or nearly so.
+/// Each op with each range between two of the ends, in a table of so many mappings and room for
+/// `spare` more.
+fn ask_edges(random: &mut Random, tally: &mut Tally, space: Space, [mappings, spare]: [usize; 2]) {
+    let good = fill_space(random, space, mappings as u64);
+    assert_eq!(good.mappings.len(), mappings);
+    let table = Table {
+        space,
+        words: good.words(random, spare),
+        count: mappings as u64,
+    };
+    let ends = page_ends(&good);
+    for (at, &from) in ends.iter().enumerate() {
+        for &to in &ends[at..] {
+            ask_range(tally, &table, from, to);
+        }
+    }
+}
+
+/// Tables that are full or nearly so.
 #[test]
-fn every_edge_of_large_tables() {
+fn every_edge_of_full_tables() {
     let mut random = Random::new(121);
     let mut tally = Tally::new(122);
     for space in plain_spaces() {
-        for most in [1, 2, 17, 100, 511, 512] {
-            let good = fill_space(&mut random, space, most);
-            assert_eq!(good.mappings.len() as u64, most);
-            let ends = page_ends(&good);
-            for spare in [0, 1].into_iter().take(1 + MOST_MAPPINGS - most as usize) {
-                let table = Table {
-                    space,
-                    words: good.words(&mut random, spare),
-                    count: most,
-                };
-                for (at, &from) in ends.iter().enumerate() {
-                    for &to in &ends[at..] {
-                        ask_range(&mut tally, &table, from, to);
-                    }
-                }
+        for mappings in [1, 2, 17, 100, 511, 512] {
+            for spare in [0, 1, 2] {
+                ask_edges(&mut random, &mut tally, space, [mappings, spare]);
             }
         }
     }
+    tally.print("every edge of full tables");
+    tally.assert_edges();
+}
+
+#[test]
+fn every_edge_of_large_tables() {
+    let mut random = Random::new(125);
+    let mut tally = Tally::new(126);
+    for space in large_spaces() {
+        for size in [
+            [513, 0],
+            [1024, 1],
+            [4094, 2],
+            [4095, 0],
+            [4095, 1],
+            [4096, 0],
+        ] {
+            ask_edges(&mut random, &mut tally, space, size);
+        }
+    }
     tally.print("every edge of large tables");
-    assert!(tally.hits.iter().all(|&times| times >= 100));
-    assert!(tally.rests.iter().all(|&times| times >= 20));
-    assert!(tally.refused[11] >= 100 && tally.freed >= 100);
+    tally.assert_edges();
 }
 
 /// The ends of the first, a middle, the last and the widest mapping, and of the space, and a page

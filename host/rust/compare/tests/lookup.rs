@@ -1,5 +1,6 @@
 //! Compares the library's look-up to the model's, input by input.
 
+use std::ops::Range;
 use std::thread;
 use waylluqen::View;
 use waylluqen_compare::calls::{Caller, Way};
@@ -8,8 +9,9 @@ use waylluqen_compare::numbers::{
     disturb_space, edge_spaces, edges, other64, space_of, HALF, LIMIT,
 };
 use waylluqen_compare::tables::{
-    any_address, any_table, boundaries, damage, fill_space, good_table, other_count, other_length,
-    plain_spaces, small_spaces, Table, DAMAGES, LONGEST_TABLE, MOST_WORDS,
+    any_address, any_table, boundaries, damage, fill_space, good_table, large_spaces, other_count,
+    other_length, plain_spaces, small_spaces, some_most, Good, Table, DAMAGES, LONGEST_TABLE,
+    MANY_MAPPINGS, MOST_WORDS,
 };
 use waylluqen_model::random::Random;
 use waylluqen_model::{lookup, Refused, Space, MAPPING_WORDS, MOST_MAPPINGS, PAGE};
@@ -70,6 +72,38 @@ impl Tally {
         }
     }
 
+    /// Looks all these addresses up in a full table.
+    fn look_at(&mut self, random: &mut Random, good: &Good, addresses: &[u64]) {
+        let (table, count) = (good.words(random, 0), good.mappings.len() as u64);
+        for &address in addresses {
+            self.compare(&good.space, &table, count, address)
+                .expect("a good table");
+        }
+    }
+
+    /// Damages each word at these places in each way, and counts what is refused.
+    fn damage_places(
+        &mut self,
+        random: &mut Random,
+        good: &Good,
+        spare: usize,
+        places: Range<usize>,
+        refused: &mut [u64; DAMAGES.len()],
+    ) {
+        let words = good.words(random, spare);
+        let count = good.mappings.len();
+        let used = count * MAPPING_WORDS;
+        for at in places.start * MAPPING_WORDS..places.end * MAPPING_WORDS {
+            for ((_, damage), refused) in DAMAGES.iter().zip(&mut *refused) {
+                let mut table = words.clone();
+                damage(random, &good.space, &mut table[..used], at);
+                let address = any_address(random, good);
+                let answer = self.compare(&good.space, &table, count as u64, address);
+                *refused += u64::from(answer.is_err());
+            }
+        }
+    }
+
     /// Every answer came at least `least` times.
     fn assert_answers(&self, least: u64) {
         for number in [1, 2, 4, 5] {
@@ -102,9 +136,10 @@ fn good_tables_and_those_near_them() {
     let mut random = Random::new(11);
     let mut tally = Tally::new(12);
     for _ in 0..TABLES {
-        let good = good_table(&mut random, MOST_MAPPINGS as u64);
+        let most = some_most(&mut random, 8);
+        let good = good_table(&mut random, most as u64);
         let mappings = good.mappings.len();
-        let spare = random.up_to((MOST_MAPPINGS - mappings) as u64) as usize;
+        let spare = random.up_to((most - mappings) as u64) as usize;
         let words = good.words(&mut random, spare);
         for _ in 0..CALLS_EACH {
             let mut space = good.space;
@@ -132,24 +167,45 @@ fn good_tables_and_those_near_them() {
     assert!(tally.comparisons >= 1_000_000);
 }
 
+/// A table that is filled up to so many mappings.
+fn filled(random: &mut Random, space: Space, mappings: usize) -> Good {
+    let good = fill_space(random, space, mappings as u64);
+    assert_eq!(good.mappings.len(), mappings);
+    good
+}
+
 #[test]
 fn every_boundary_of_good_tables() {
     let mut random = Random::new(21);
     let mut tally = Tally::new(22);
     for space in plain_spaces() {
-        for most in [1, 2, 3, 17, 100, 512, 512] {
-            let good = fill_space(&mut random, space, most);
-            assert_eq!(good.mappings.len() as u64, most);
-            let table = good.words(&mut random, 0);
-            for address in boundaries(&good) {
-                tally
-                    .compare(&space, &table, most, address)
-                    .expect("a good table");
-            }
+        for mappings in [1, 2, 3, 17, 100, 511, 512, 512] {
+            let good = filled(&mut random, space, mappings);
+            tally.look_at(&mut random, &good, &boundaries(&good));
         }
     }
     tally.print("every boundary of good tables");
     assert!(tally.mapped >= 1000 && tally.unmapped >= 1000);
+}
+
+#[test]
+fn boundaries_of_large_tables() {
+    const EACH: usize = 500;
+    let mut random = Random::new(25);
+    let mut tally = Tally::new(26);
+    for space in large_spaces() {
+        for mappings in [513, 1024, 4094, 4095, 4096] {
+            let good = filled(&mut random, space, mappings);
+            let all = boundaries(&good);
+            // The first and the last ones, and some of those between.
+            let between = all.iter().step_by(all.len() / EACH);
+            let ends = all[..20].iter().chain(&all[all.len() - 20..]);
+            let some: Vec<u64> = between.chain(ends).copied().collect();
+            tally.look_at(&mut random, &good, &some);
+        }
+    }
+    tally.print("boundaries of large tables");
+    assert!(tally.mapped >= 1000 && tally.unmapped >= 100);
 }
 
 #[test]
@@ -158,21 +214,10 @@ fn every_word_damaged_in_every_way() {
     let mut tally = Tally::new(32);
     let mut refused = [0; DAMAGES.len()];
     for space in plain_spaces() {
-        for most in [1, 2, 3, 17, 100, 512] {
-            let good = fill_space(&mut random, space, most);
-            assert_eq!(good.mappings.len() as u64, most);
-            let spare = (MOST_MAPPINGS as u64 - most).min(3) as usize;
-            let words = good.words(&mut random, spare);
-            let used = good.mappings.len() * MAPPING_WORDS;
-            for at in 0..used {
-                for ((_, damage), refused) in DAMAGES.iter().zip(&mut refused) {
-                    let mut table = words.clone();
-                    damage(&mut random, &space, &mut table[..used], at);
-                    let address = any_address(&mut random, &good);
-                    let answer = tally.compare(&space, &table, most, address);
-                    *refused += u64::from(answer.is_err());
-                }
-            }
+        for mappings in [1, 2, 3, 17, 100, 512] {
+            let good = filled(&mut random, space, mappings);
+            let spare = (MANY_MAPPINGS - mappings).min(3);
+            tally.damage_places(&mut random, &good, spare, 0..mappings, &mut refused);
         }
     }
     tally.print("every word damaged in every way");
@@ -182,14 +227,40 @@ fn every_word_damaged_in_every_way() {
     }
 }
 
+/// At the ends of a large table, in its middle, and about what is many.
+#[test]
+fn words_of_large_tables_damaged_in_every_way() {
+    let mut random = Random::new(35);
+    let mut tally = Tally::new(36);
+    let mut refused = [0; DAMAGES.len()];
+    for space in large_spaces() {
+        for mappings in [513, 1024, 4095, 4096] {
+            let good = filled(&mut random, space, mappings);
+            let spare = (MOST_MAPPINGS - mappings).min(3);
+            for places in [0..2, 511..513, mappings / 2..mappings / 2 + 1] {
+                tally.damage_places(&mut random, &good, spare, places, &mut refused);
+            }
+            let last = mappings - 2..mappings;
+            tally.damage_places(&mut random, &good, spare, last, &mut refused);
+        }
+    }
+    tally.print("words of large tables damaged in every way");
+    for ((name, _), times) in DAMAGES.iter().zip(refused) {
+        assert!(times >= 50, "{name} was refused only {times} times");
+    }
+    assert!(tally.first >= 50 && tally.between >= 50 && tally.last >= 50);
+}
+
 #[test]
 fn lengths_and_counts() {
     let mut random = Random::new(41);
     let mut tally = Tally::new(42);
-    for space in plain_spaces() {
-        let good = fill_space(&mut random, space, MOST_MAPPINGS as u64);
-        let words = good.words(&mut random, MOST_MAPPINGS);
-        for length in (0..=MOST_WORDS + 20).chain([2100, 3000, 3001, LONGEST_TABLE]) {
+    let many = MANY_MAPPINGS * MAPPING_WORDS;
+    for space in large_spaces() {
+        let good = filled(&mut random, space, MOST_MAPPINGS);
+        let words = good.words(&mut random, LONGEST_TABLE / MAPPING_WORDS - MOST_MAPPINGS);
+        let lengths = (0..=many + 20).chain(MOST_WORDS - 20..=MOST_WORDS + 20);
+        for length in lengths.chain([3000, 3001, 8192, LONGEST_TABLE]) {
             let capacity = (length / MAPPING_WORDS) as u64;
             for count in edges(&[0, capacity, length as u64, 1 << 32, 1 << 62, HALF]) {
                 let address = any_address(&mut random, &good);

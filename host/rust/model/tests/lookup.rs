@@ -130,7 +130,9 @@ fn spaces_that_break_their_rules() {
 #[test]
 fn lengths() {
     let zeros = [0; 20_000];
-    let uneven = [1, 2, 3, 5, 6, 7, 9, 2047, 2049, 16_382, 16_383, 16_385, 16_386];
+    let uneven = [
+        1, 2, 3, 5, 6, 7, 9, 2047, 2049, 16_382, 16_383, 16_385, 16_386,
+    ];
     for bad in uneven.into_iter().chain([0, 16_388, 20_000]) {
         assert_eq!(lookup(&COMMON, &zeros[..bad], 0, 0), refused(2), "{bad}");
         // The length comes before the count.
