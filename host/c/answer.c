@@ -37,10 +37,11 @@ struct call {
 
 _Static_assert(sizeof(struct call) == 17 * sizeof(uint64_t), "17 words, without a gap");
 
-/* Memories to lend from: a small one takes less time to fill and to look through. */
-#define MEMORIES 3
-#define MOST_WORDS 16384
-static const size_t memory_words[MEMORIES] = {512, 4096, MOST_WORDS};
+/* Memories to lend from: a small one takes less time to fill and to look through. The last but one
+ * has room for a table that is somewhat too long, the last for the operation words of such a one. */
+#define MEMORIES 4
+#define MOST_WORDS 73728
+static const size_t memory_words[MEMORIES] = {512, 4096, 20992, MOST_WORDS};
 
 /* What is lent for a call, and the memory in which it is. */
 struct area {

@@ -7,8 +7,8 @@ use waylluqen_compare::near::{disturb, narrow_record, near_record, widen};
 use waylluqen_compare::numbers::{disturb_space, good_space, other64};
 use waylluqen_compare::requests::{disturb_record, good_record, place, LONGEST_RECORD};
 use waylluqen_compare::tables::{
-    any_address, any_table, disturb_table, good_table, plain_spaces, small_spaces,
-    some_operation_words, Good, Table,
+    any_address, any_table, disturb_table, fill_space, good_table, large_spaces, plain_spaces,
+    small_spaces, some_operation_words, Good, Table, MANY_MAPPINGS,
 };
 use waylluqen_model::random::Random;
 use waylluqen_model::table::mapping_at;
@@ -19,6 +19,11 @@ use waylluqen_model::{Record, Space, MAPPING_WORDS, MOST_MAPPINGS, PAGE, RECORD_
 const TABLES: u64 = 4;
 const ANY_TABLES: u64 = 2;
 const CHECKS: u64 = 24;
+
+/// A large table, and a history of one, once in so many rounds: a call takes as long as hundreds on
+/// a small one, and a round's calls are all in memory.
+const LARGE_TABLE: u64 = 16;
+const LARGE_HISTORY: u64 = 32;
 
 /// The calls that this randomness gives.
 pub fn calls(random: &mut Random) -> Vec<Call> {
@@ -34,6 +39,9 @@ pub fn calls(random: &mut Random) -> Vec<Call> {
     }
     for _ in 0..CHECKS {
         round.check();
+    }
+    if round.random.once_in(LARGE_TABLE) {
+        round.large_table();
     }
     round.history();
     round.calls
@@ -97,14 +105,24 @@ impl Round<'_> {
         }
     }
 
-    /// A good table or one near it, by numbers, by record, and looked at.
     fn near_table(&mut self) {
         let largest = match self.random.below(32) {
-            0 => MOST_MAPPINGS as u64,
+            0 => MANY_MAPPINGS as u64,
             1..=4 => 64,
             _ => 12,
         };
         let good = good_table(self.random, largest);
+        self.near(&good);
+    }
+
+    fn large_table(&mut self) {
+        let (space, mappings) = large(self.random);
+        let good = fill_space(self.random, space, mappings as u64);
+        self.near(&good);
+    }
+
+    /// A good table or one near it, by numbers, by record, and looked at.
+    fn near(&mut self, good: &Good) {
         let spare = self.random.pick(&[0, 0, 1, 2, 3]);
         let spare = spare.min(MOST_MAPPINGS - good.mappings.len());
         let words = good.words(self.random, spare);
@@ -114,13 +132,13 @@ impl Round<'_> {
                 words: words.clone(),
                 count: good.mappings.len() as u64,
             };
-            let mut record = near_record(self.random, &good);
-            disturb(self.random, &good, &mut table, &mut record);
+            let mut record = near_record(self.random, good);
+            disturb(self.random, good, &mut table, &mut record);
             self.add(&table, false, Question::Record(record));
             self.add(&table, false, Question::Numbers(record));
-            let address = any_address(self.random, &good);
+            let address = any_address(self.random, good);
             self.add(&table, false, Question::Lookup(address));
-            disturb_table(self.random, &good, &mut table);
+            disturb_table(self.random, good, &mut table);
             self.add(&table, false, Question::Lookup(address));
         }
     }
@@ -173,18 +191,15 @@ impl Round<'_> {
         });
     }
 
-    /// Requests on one table, from empty, each on what the last one left, and look-ups between.
+    /// Requests on one table, each on what the last one left, and look-ups between.
     fn history(&mut self) {
         let Plan {
-            space,
-            capacity,
+            mut table,
             steps,
             narrow,
-        } = plan(self.random);
-        let mut table = Table {
-            space,
-            words: vec![0; capacity as usize * MAPPING_WORDS],
-            count: 0,
+        } = match self.random.once_in(LARGE_HISTORY) {
+            true => large_plan(self.random),
+            false => plan(self.random),
         };
         for step in 0..steps {
             let good = good_of(&table);
@@ -220,18 +235,40 @@ impl Round<'_> {
 
 /// The course of a history.
 struct Plan {
-    space: Space,
-    capacity: u64,
+    table: Table,
     steps: u64,
     /// Whether requests stay near one mapping, so that the table fills up.
     narrow: bool,
 }
 
+/// A space, and how many mappings there are to be: more than many, and often as many as may be.
+fn large(random: &mut Random) -> (Space, usize) {
+    let fewer = random.up_to((MOST_MAPPINGS - MANY_MAPPINGS - 1) as u64);
+    (random.pick(&large_spaces()), MOST_MAPPINGS - fewer as usize)
+}
+
+/// From a table that is full or nearly so: to fill a large one takes too many steps.
+fn large_plan(random: &mut Random) -> Plan {
+    let (space, capacity) = large(random);
+    let spare = random.below(4) as usize;
+    let good = fill_space(random, space, (capacity - spare) as u64);
+    Plan {
+        table: Table {
+            space,
+            words: good.words(random, spare),
+            count: good.mappings.len() as u64,
+        },
+        steps: 10 + random.below(30),
+        narrow: !random.once_in(4),
+    }
+}
+
+/// From an empty table.
 fn plan(random: &mut Random) -> Plan {
     let (space, capacity) = match random.below(64) {
         0 => {
-            let most = MOST_MAPPINGS as u64;
-            (random.pick(&plain_spaces()), most - random.up_to(most / 2))
+            let many = MANY_MAPPINGS as u64;
+            (random.pick(&plain_spaces()), many - random.up_to(many / 2))
         }
         1..=15 => (random.pick(&plain_spaces()), 1 + random.below(40)),
         16..=31 => (good_space(random), 1 + random.below(20)),
@@ -243,8 +280,11 @@ fn plan(random: &mut Random) -> Plan {
         false => random.below(60),
     };
     Plan {
-        space,
-        capacity,
+        table: Table {
+            space,
+            words: vec![0; capacity as usize * MAPPING_WORDS],
+            count: 0,
+        },
         steps,
         narrow,
     }

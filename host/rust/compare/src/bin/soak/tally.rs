@@ -3,6 +3,9 @@
 use crate::call::{Asked, Call};
 use waylluqen_compare::library::{Bound, Shown};
 use waylluqen_compare::marks::Marks;
+use waylluqen_compare::tables::MANY_MAPPINGS;
+use waylluqen_model::answer::{NO_ROOM, UNALIGNED};
+use waylluqen_model::MOST_MAPPINGS;
 
 #[derive(Default)]
 pub struct Tally {
@@ -14,6 +17,9 @@ pub struct Tally {
     granted: u64,
     /// The most mappings that a grant left.
     largest: u64,
+    /// Calls on good tables of more than many mappings; those on full ones of as many as may be.
+    on_large: u64,
+    on_full: u64,
     marks: Marks,
     mapped: u64,
     unmapped: u64,
@@ -21,10 +27,21 @@ pub struct Tally {
     refused: [u64; 15],
 }
 
+/// Whether nothing is wrong with the call's table: it is answered, or refused by a later rule.
+fn has_good_table(asked: &Asked) -> bool {
+    let refused = match asked {
+        Asked::Numbers(_, bound) | Asked::Record(_, bound) => bound.as_ref().err(),
+        Asked::Lookup(_, shown) => shown.as_ref().err(),
+        Asked::Check(..) => return false,
+    };
+    refused.is_none_or(|refused| (UNALIGNED..=NO_ROOM).contains(&refused.number))
+}
+
 impl Tally {
     pub fn count(&mut self, calls: &[Call]) {
         self.rounds += 1;
         for call in calls {
+            self.count_table(call);
             match &call.asked {
                 Asked::Numbers(_, bound) => {
                     self.by_numbers += 1;
@@ -43,6 +60,14 @@ impl Tally {
                     self.refused[*number as usize] += 1;
                 }
             }
+        }
+    }
+
+    fn count_table(&mut self, call: &Call) {
+        let mappings = call.table.count;
+        if has_good_table(&call.asked) && mappings > MANY_MAPPINGS as u64 {
+            self.on_large += 1;
+            self.on_full += u64::from(mappings == MOST_MAPPINGS as u64);
         }
     }
 
@@ -75,6 +100,8 @@ impl Tally {
             checks,
             granted,
             largest,
+            on_large,
+            on_full,
             marks,
             mapped,
             unmapped,
@@ -93,6 +120,8 @@ impl Tally {
              record, {lookups} look-ups, {checks} checks\n\
              {granted} requests granted, on tables of up to {largest} mappings; {mapped} addresses \
              mapped, {unmapped} not; {passed} checks passed\n\
+             {on_large} calls on good tables of more than {MANY_MAPPINGS} mappings, {on_full} of them \
+             on full ones of {MOST_MAPPINGS}\n\
              {kept} old mappings kept, {elsewhere} of them at another address than the new one; \
              {around} maps had one that was not kept between two that were\n\
              refused {}",
