@@ -1,0 +1,278 @@
+/* SPDX-License-Identifier: MIT */
+/*
+ * How much stack a call takes, and that it is no more where a table has more room. Each call is made on a
+ * stack of its own, painted before: from the stack pointer before the arguments are pushed down to the lowest
+ * byte that has changed is what it took, with all that it calls itself.
+ *
+ * Link it with -z now: the first call of memset would else run the dynamic linker on that stack.
+ */
+#define _DEFAULT_SOURCE /* for MAP_ANONYMOUS in support.h */
+
+#include <inttypes.h>
+#include <stdio.h>
+#include <stdlib.h>
+
+#include "support.h"
+
+/* What the header promises: a call takes less. */
+#define TOO_MUCH 1024
+
+#define TABLE_WORDS WAYLLUQEN_TABLE_WORDS(MOST_MAPPINGS)
+#define LIST_WORDS WAYLLUQEN_OPERATION_LIST_WORDS(MOST_MAPPINGS)
+
+typedef waylluqen_answer bind_function(waylluqen_space, uint64_t *, size_t, uint64_t, uint64_t *, size_t,
+                                       waylluqen_request);
+
+/* The call that is made: what it is given, and the refusal that it answers. */
+static struct {
+    bind_function *bind;
+    waylluqen_space space;
+    size_t table_words;
+    uint64_t count;
+    size_t list_words;
+    waylluqen_request request;
+    uint8_t record[RECORD_BYTES];
+    uint64_t address;
+    uint64_t refusal;
+} call;
+
+static uint64_t table[TABLE_WORDS], list[LIST_WORDS];
+
+static _Alignas(64) uint8_t stack[1 << 16];
+static uint8_t *before; /* the stack pointer before the arguments are pushed */
+
+/* Nothing is pushed across it, since it may touch memory. */
+#define NOTE_STACK_POINTER() __asm__ volatile("movq %%rsp, %0" : "=r"(before) : : "memory")
+
+static void make_bind(void)
+{
+    NOTE_STACK_POINTER();
+    call.refusal = call.bind(call.space, table, call.table_words, call.count, list, call.list_words, call.request)
+                       .refusal;
+}
+
+static void make_bind_record(void)
+{
+    NOTE_STACK_POINTER();
+    call.refusal = waylluqen_bind_record(call.space, table, call.table_words, call.count, list, call.list_words,
+                                         call.record, sizeof call.record)
+                       .refusal;
+}
+
+static void make_lookup(void)
+{
+    NOTE_STACK_POINTER();
+    call.refusal = waylluqen_lookup(call.space, table, call.table_words, call.count, call.address).refusal;
+}
+
+static void make_check_request(void)
+{
+    NOTE_STACK_POINTER();
+    call.refusal = waylluqen_check_request(call.record, sizeof call.record, call.space.start, call.space.size,
+                                           call.space.reserved_start, call.space.reserved_size);
+}
+
+enum { BIND, BIND_RECORD, LOOKUP, CHECK_REQUEST, CALLS };
+static const struct {
+    const char *name;
+    void (*make)(void);
+} calls[CALLS] = {{"bind", make_bind},
+                  {"bind_record", make_bind_record},
+                  {"lookup", make_lookup},
+                  {"check_request", make_check_request}};
+
+static void run_on_stack(void (*make)(void))
+{
+    __asm__ volatile("movq %%rsp, %%rbx\n\t"
+                     "movq %0, %%rsp\n\t"
+                     "call *%1\n\t"
+                     "movq %%rbx, %%rsp"
+                     :
+                     : "r"(stack + sizeof stack), "r"(make)
+                     : "rax", "rbx", "rcx", "rdx", "rsi", "rdi", "r8", "r9", "r10", "r11", "xmm0", "xmm1",
+                       "xmm2", "xmm3", "xmm4", "xmm5", "xmm6", "xmm7", "xmm8", "xmm9", "xmm10", "xmm11", "xmm12",
+                       "xmm13", "xmm14", "xmm15", "memory", "cc");
+}
+
+/* How many bytes the call takes that is made on a stack of this paint. */
+static size_t painted(void (*make)(void), uint8_t paint)
+{
+    size_t lowest = 0;
+    memset(stack, paint, sizeof stack);
+    run_on_stack(make);
+    while (stack[lowest] == paint) {
+        lowest++;
+    }
+    return (size_t)(before - (stack + lowest));
+}
+
+/* Page 4p is the first of the three that place p has; the fourth is a gap. Behind the last are four pages more. */
+static void fill_table(size_t room, size_t count, size_t bad_place)
+{
+    memset(table, UNWRITTEN_BYTE, sizeof table);
+    for (size_t place = 0; place < count; place++) {
+        const struct mapping mapping = {4 * place * PAGE, 3 * PAGE, place == bad_place ? 0 : place + 1, place * PAGE};
+        memcpy(table + place * MAPPING_WORDS, &mapping, sizeof mapping);
+    }
+    call.space = (waylluqen_space){0, 4 * (room + 1) * PAGE, 0, 0};
+    call.table_words = room * MAPPING_WORDS;
+    call.list_words = WAYLLUQEN_OPERATION_LIST_WORDS(room);
+    call.count = count;
+}
+
+/* Which place a request is about; ALL is about all of them. */
+enum where { FIRST_PLACE, MIDDLE_PLACE, LAST_PLACE, ALL };
+
+/* On a table that has room for `spare` mappings more: what is asked for, in pages from the place's first on. */
+struct test_case {
+    uint64_t refusal;
+    size_t spare;
+    enum where where;
+    uint64_t op;
+    uint64_t from;
+    uint64_t to;
+    int bad; /* whether the mapping at the place is bad */
+};
+
+#define MAPS(where, from, to) where, WAYLLUQEN_OP_MAP, from, to, 0
+#define UNMAPS(where, from, to) where, WAYLLUQEN_OP_UNMAP, from, to, 0
+
+static const struct test_case cases[] = {
+    /* Those behind move up: by one, into a gap or for a hole; by two. */
+    {0, 1, MAPS(FIRST_PLACE, 3, 4)},
+    {0, 1, MAPS(MIDDLE_PLACE, 3, 4)},
+    {0, 1, MAPS(LAST_PLACE, 3, 4)},
+    {0, 1, UNMAPS(FIRST_PLACE, 1, 2)},
+    {0, 1, UNMAPS(LAST_PLACE, 1, 2)},
+    {0, 2, MAPS(FIRST_PLACE, 1, 2)},
+    {0, 2, MAPS(MIDDLE_PLACE, 1, 2)},
+    /* They move down, and what is left is cleared. */
+    {0, 0, UNMAPS(FIRST_PLACE, 0, 4)},
+    {0, 0, UNMAPS(MIDDLE_PLACE, 0, 4)},
+    {0, 0, UNMAPS(LAST_PLACE, 0, 4)},
+    {0, 0, MAPS(FIRST_PLACE, 0, 8)},
+    {0, 0, UNMAPS(ALL, 0, 4)},
+    {0, 0, MAPS(ALL, 0, 4)},
+    {0, 1, UNMAPS(ALL, 0, 4)},
+    /* They stay: one is replaced, one is cut, nothing is hit. */
+    {0, 0, MAPS(FIRST_PLACE, 0, 3)},
+    {0, 0, UNMAPS(MIDDLE_PLACE, 1, 4)},
+    {0, 0, UNMAPS(LAST_PLACE, 3, 4)},
+    /* Refusals: of the mappings, of the request, and for want of room. */
+    {5, 0, FIRST_PLACE, WAYLLUQEN_OP_MAP, 0, 3, 1},
+    {5, 0, MIDDLE_PLACE, WAYLLUQEN_OP_MAP, 0, 3, 1},
+    {5, 0, LAST_PLACE, WAYLLUQEN_OP_UNMAP, 0, 3, 1},
+    {6, 0, MAPS(FIRST_PLACE, 3, 3)},
+    {7, 0, MAPS(LAST_PLACE, 0, 9)},
+    {11, 0, MAPS(FIRST_PLACE, 3, 4)},
+    {11, 0, MAPS(LAST_PLACE, 3, 4)},
+    {11, 0, UNMAPS(MIDDLE_PLACE, 1, 2)},
+};
+
+static void fail(const char *what, const char *why, uint64_t number)
+{
+    printf("host/c: stack: %s: %s %" PRIu64 "\n", what, why, number);
+    exit(1);
+}
+
+/* Lends what a case needs, with room for so many mappings, and asks for it in every form. */
+static void lend_case(const struct test_case *test, size_t room)
+{
+    size_t places[] = {0, room / 2, room - 1, 0};
+    size_t place = places[test->where];
+    size_t end = test->where == ALL ? room - 1 : place;
+    size_t count = test->spare < room ? room - test->spare : 0;
+    int maps = test->op == WAYLLUQEN_OP_MAP;
+    struct record fields = {.op = (uint32_t)test->op,
+                            .object = maps ? 9999 : 0,
+                            .address = (4 * place + test->from) * PAGE,
+                            .size = (4 * (end - place) + test->to - test->from) * PAGE};
+
+    fill_table(room, count, test->bad ? place : room);
+    call.request = (waylluqen_request){fields.op, fields.address, fields.size, fields.object, 0};
+    call.address = fields.address;
+    encode(call.record, &fields);
+}
+
+/* What the case's refusal is to each of the calls. */
+static uint64_t refusal_of(const struct test_case *test, int which)
+{
+    int is_request = test->refusal == 6 || test->refusal == 7;
+    int is_told = which == BIND || which == BIND_RECORD || (which == LOOKUP ? test->bad : is_request);
+    return is_told ? test->refusal : 0;
+}
+
+/* The most that a call takes with room for so many mappings. Painted twice: what is written may look like paint. */
+static size_t most_of(int which, size_t room)
+{
+    static const uint8_t paints[] = {0xa5, 0x5a};
+    size_t most = 0;
+    for (size_t i = 0; i < sizeof cases / sizeof cases[0]; i++) {
+        for (size_t j = 0; j < sizeof paints; j++) {
+            lend_case(&cases[i], room);
+            size_t bytes = painted(calls[which].make, paints[j]);
+            if (call.refusal != refusal_of(&cases[i], which)) {
+                fail(calls[which].name, "another answer than expected, to case", i);
+            }
+            most = bytes > most ? bytes : most;
+        }
+    }
+    return most;
+}
+
+/* In place of the library: takes what is known. */
+#define KNOWN 1000
+static __attribute__((noinline)) waylluqen_answer stand_in(waylluqen_space space, uint64_t *words, size_t table_words,
+                                                           uint64_t count, uint64_t *operations,
+                                                           size_t operation_words, waylluqen_request request)
+{
+    volatile uint8_t taken[KNOWN];
+    taken[0] = (uint8_t)(space.start + table_words + operation_words + (words == operations));
+    return (waylluqen_answer){0, 0, request.op, count + taken[0]};
+}
+
+/* Space and request are pushed, and a return address; the compiler may align what it pushes and takes. */
+static void check_measure(void)
+{
+    const size_t least = KNOWN + sizeof(waylluqen_space) + sizeof(waylluqen_request) + sizeof(void *);
+    call.bind = stand_in;
+    size_t bytes = painted(make_bind, UNWRITTEN_BYTE);
+    if (bytes < least || bytes > least + 64) {
+        fail("a function that takes some 1,000 bytes", "is measured as", bytes);
+    }
+    call.bind = waylluqen_bind;
+}
+
+#define ROOMS 3
+static const size_t rooms[ROOMS] = {1, 512, MOST_MAPPINGS};
+
+static void check_most(size_t most[ROOMS][CALLS])
+{
+    for (int which = 0; which < CALLS; which++) {
+        for (size_t i = 0; i < ROOMS; i++) {
+            if (most[i][which] >= TOO_MUCH) {
+                fail(calls[which].name, "is to take less than a kilobyte of stack, and takes", most[i][which]);
+            }
+            if (i > 0 && most[i][which] > most[i - 1][which]) {
+                fail(calls[which].name, "takes more stack where there is more room:", most[i][which]);
+            }
+        }
+    }
+}
+
+int main(void)
+{
+    size_t most[ROOMS][CALLS];
+
+    check_measure();
+    for (size_t i = 0; i < ROOMS; i++) {
+        printf("host/c: bytes of stack, room for %zu:", rooms[i]);
+        for (int which = 0; which < CALLS; which++) {
+            most[i][which] = most_of(which, rooms[i]);
+            printf(" %s %zu", calls[which].name, most[i][which]);
+        }
+        printf("\n");
+    }
+    check_most(most);
+    return 0;
+}
