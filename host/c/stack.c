@@ -246,6 +246,15 @@ static void check_measure(void)
 #define ROOMS 3
 static const size_t rooms[ROOMS] = {1, 512, MOST_MAPPINGS};
 
+static void print_most(size_t room, const size_t most[CALLS])
+{
+    printf("host/c: bytes of stack, room for %zu:", room);
+    for (int which = 0; which < CALLS; which++) {
+        printf(" %s %zu", calls[which].name, most[which]);
+    }
+    printf("\n");
+}
+
 static void check_most(size_t most[ROOMS][CALLS])
 {
     for (int which = 0; which < CALLS; which++) {
@@ -266,12 +275,10 @@ int main(void)
 
     check_measure();
     for (size_t i = 0; i < ROOMS; i++) {
-        printf("host/c: bytes of stack, room for %zu:", rooms[i]);
         for (int which = 0; which < CALLS; which++) {
             most[i][which] = most_of(which, rooms[i]);
-            printf(" %s %zu", calls[which].name, most[i][which]);
         }
-        printf("\n");
+        print_most(rooms[i], most[i]);
     }
     check_most(most);
     return 0;
