@@ -35,6 +35,8 @@ struct Tally {
     marks: Marks,
     /// Maps that a full table has room for only because they free some.
     freed: u64,
+    /// Grants on full tables of as many mappings as there may be.
+    on_most: u64,
     /// Good spaces with nothing reserved, all, the lower end, the upper end, a part between.
     reserved: [u64; 5],
 }
@@ -72,6 +74,7 @@ impl Tally {
             both_ends: 0,
             marks: Marks::default(),
             freed: 0,
+            on_most: 0,
             reserved: [0; 5],
         }
     }
@@ -114,6 +117,7 @@ impl Tally {
         }
         let full = table.count as usize * MAPPING_WORDS == table.words.len();
         self.freed += u64::from(maps && full);
+        self.on_most += u64::from(table.count as usize == MOST_MAPPINGS);
         self.marks.count(grant);
     }
 
@@ -150,7 +154,7 @@ impl Tally {
     fn print(&self, test: &str) {
         println!(
             "{test}: {} calls, granted {:?}, refused {:?}, hits {:?}, rests {:?}, both ends {}, \
-             freed {}, reserved {:?}, {:?}",
+             freed {}, on most {}, reserved {:?}, {:?}",
             self.calls,
             self.granted,
             &self.refused[1..],
@@ -158,6 +162,7 @@ impl Tally {
             self.rests,
             self.both_ends,
             self.freed,
+            self.on_most,
             self.reserved,
             self.marks
         );
@@ -211,6 +216,7 @@ fn good_tables_and_those_near_them() {
     assert!(tally.calls >= 2_000_000);
     let granted: u64 = tally.granted.iter().sum();
     assert!(2 * granted > tally.calls, "only {granted} grants");
+    assert!(tally.on_most >= 500, "only {} grants", tally.on_most);
 }
 
 #[test]
@@ -291,6 +297,7 @@ fn every_edge_of_large_tables() {
     }
     tally.print("every edge of large tables");
     tally.assert_edges();
+    assert!(tally.on_most >= 500, "only {} grants", tally.on_most);
 }
 
 /// The ends of the first, a middle, the last and the widest mapping, and of the space, and a page

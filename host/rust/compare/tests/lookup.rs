@@ -28,6 +28,8 @@ struct Tally {
     first: u64,
     last: u64,
     between: u64,
+    /// Answers from full tables of as many mappings as there may be.
+    on_most: u64,
 }
 
 impl Tally {
@@ -41,6 +43,7 @@ impl Tally {
             first: 0,
             last: 0,
             between: 0,
+            on_most: 0,
         }
     }
 
@@ -58,6 +61,7 @@ impl Tally {
 
     fn note(&mut self, answer: Shown, count: u64) {
         self.comparisons += 1;
+        self.on_most += u64::from(answer.is_ok() && count == MOST_MAPPINGS as u64);
         match answer {
             Ok(Some(_)) => self.mapped += 1,
             Ok(None) => self.unmapped += 1,
@@ -123,8 +127,14 @@ impl Tally {
         let [_, space, length, _, count, mapping] = self.refused;
         println!(
             "{test}: {} comparisons, mapped {}, unmapped {}, refused 1: {space}, 2: {length}, \
-             4: {count}, 5: {mapping} (first {}, between {}, last {})",
-            self.comparisons, self.mapped, self.unmapped, self.first, self.between, self.last
+             4: {count}, 5: {mapping} (first {}, between {}, last {}), on most {}",
+            self.comparisons,
+            self.mapped,
+            self.unmapped,
+            self.first,
+            self.between,
+            self.last,
+            self.on_most
         );
     }
 }
@@ -165,6 +175,7 @@ fn good_tables_and_those_near_them() {
     tally.print("good tables and those near them");
     tally.assert_answers(1000);
     assert!(tally.comparisons >= 1_000_000);
+    assert!(tally.on_most >= 1000, "only {} answers", tally.on_most);
 }
 
 /// A table that is filled up to so many mappings.
