@@ -2,9 +2,10 @@
 /*
  * How much stack a call takes, and that it is no more where a table has more room. Each call is made on a
  * stack of its own, painted before: from the stack pointer before the arguments are pushed down to the lowest
- * byte that has changed is what it took, with all that it calls itself.
+ * byte that has changed is what it took, with all that it calls itself. The caller's own place for the answer
+ * is not counted.
  *
- * Link it with -z now: the first call of memset would else run the dynamic linker on that stack.
+ * Link it with -z now, so that no first call of memset runs the dynamic linker on that stack.
  */
 #define _DEFAULT_SOURCE /* for MAP_ANONYMOUS in support.h */
 
