@@ -13,7 +13,6 @@ mod picture;
 mod place;
 mod replay;
 mod saved;
-mod svg;
 mod text;
 
 use mapping::Space;
@@ -24,6 +23,7 @@ use std::os::unix::ffi::OsStrExt;
 use std::process::ExitCode;
 use waylluqen_assemble::quote::named;
 use waylluqen_assemble::stream::{read, tell, write};
+use waylluqen_svg as svg;
 
 const USAGE: &str = "usage: picture [-h] [--space START SIZE [RESERVED-START RESERVED-SIZE]]
                [--grant N | --table] [file]

@@ -7,7 +7,7 @@ mod sizes;
 use super::*;
 use crate::mapping::Mapping;
 use crate::replay::replay;
-use crate::svg::tests::{elements, Element};
+use crate::svg::read::{elements, Element};
 use geometry::{column_rooms, covers, cross, disturbs, is_filled, lines, overlap, room, Room};
 
 const WORKED: &str = include_str!("../../../../../examples/worked.out");

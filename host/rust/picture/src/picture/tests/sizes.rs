@@ -55,15 +55,13 @@ fn column_texts(elements: &[Element], which: Which) -> Vec<(f64, String)> {
         let x = one.number("x").unwrap();
         one.get("text-anchor") == Some("middle") && left < x && x < right
     });
-    let below = in_column.filter(|one| one.y() > TOP);
-    below.map(|one| (one.y(), one.text.clone())).collect()
+    let below = in_column.filter(|one| middle(one) > TOP);
+    below.map(|one| (middle(one), one.text.clone())).collect()
 }
 
-impl Element {
-    /// The height of a text's middle.
-    fn y(&self) -> f64 {
-        self.number("y").unwrap() - 0.35 * self.number("font-size").unwrap_or(FONT)
-    }
+/// The height of a text's middle.
+fn middle(text: &Element) -> f64 {
+    text.number("y").unwrap() - 0.35 * text.number("font-size").unwrap_or(FONT)
 }
 
 /// The labels beside the columns: left ones end at their place.

@@ -1,7 +1,5 @@
 //! A reader of XML that takes what is well-formed and nothing else, for the pictures' tests.
 
-use super::*;
-
 pub struct Element {
     pub name: String,
     pub attributes: Vec<(String, String)>,
@@ -99,58 +97,64 @@ pub fn elements(file: &str) -> Vec<Element> {
     out
 }
 
-#[test]
-fn a_file_is_well_formed() {
-    let mut svg = Svg::default();
-    svg.rect((0.0, 0.25), (10.0, 20.0), r#"fill="none""#);
-    svg.area(&[(0.0, 0.0), (1.06, 2.0)], r#"fill="none""#);
-    svg.text((5.0, 5.0), "", r#"a < b & "c" > d"#);
-    let elements = elements(&svg.file((99.5, 50.0), "<title>", "&amp;"));
-    let text = |name: &str| &elements.iter().find(|one| one.name == name).unwrap().text;
-    assert_eq!(text("title"), "<title>");
-    assert_eq!(text("desc"), "&amp;");
-    assert_eq!(text("text"), r#"a < b & "c" > d"#);
-    let root = elements.last().unwrap();
-    assert_eq!(root.get("viewBox"), Some("0 0 100 50"));
-    assert_eq!(
-        (root.number("width"), root.number("height")),
-        (Some(100.0), Some(50.0))
-    );
-    let area = elements.iter().find(|one| one.name == "polygon").unwrap();
-    assert_eq!(area.get("points"), Some("0,0 1.1,2"));
-}
+#[cfg(test)]
+mod tests {
+    use super::*;
+    use crate::Svg;
 
-#[test]
-fn a_thin_rectangle_has_a_row_of_dots_in_it() {
-    let dots = |height: f64| {
+    #[test]
+    fn a_file_is_well_formed() {
         let mut svg = Svg::default();
-        svg.dots((6.0, 20.0), (60.0, height));
-        let mut elements = elements(&format!("<svg>\n{}</svg>\n", svg.elements));
-        assert_eq!(elements.len(), 2);
-        elements.remove(0)
-    };
-    let row = dots(2.0);
-    assert_eq!(row.get("points"), Some("8,21 64,21"));
-    assert_eq!(row.get("stroke-dasharray"), Some("2 4"));
-    assert_eq!(dots(11.0).get("points"), Some("8,25.5 64,25.5"));
-    assert_eq!(dots(12.0).get("fill"), Some("url(#dots)"));
-}
+        svg.rect((0.0, 0.25), (10.0, 20.0), r#"fill="none""#);
+        svg.area(&[(0.0, 0.0), (1.06, 2.0)], r#"fill="none""#);
+        svg.text((5.0, 5.0), "", r#"a < b & "c" > d"#);
+        let elements = elements(&svg.file((99.5, 50.0), "<title>", "&amp;"));
+        let text = |name: &str| &elements.iter().find(|one| one.name == name).unwrap().text;
+        assert_eq!(text("title"), "<title>");
+        assert_eq!(text("desc"), "&amp;");
+        assert_eq!(text("text"), r#"a < b & "c" > d"#);
+        let root = elements.last().unwrap();
+        assert_eq!(root.get("viewBox"), Some("0 0 100 50"));
+        assert_eq!(
+            (root.number("width"), root.number("height")),
+            (Some(100.0), Some(50.0))
+        );
+        let area = elements.iter().find(|one| one.name == "polygon").unwrap();
+        assert_eq!(area.get("points"), Some("0,0 1.1,2"));
+    }
 
-#[test]
-fn what_is_not_well_formed_is_seen() {
-    for file in [
-        "<a>",
-        "</a>",
-        "<a></b>",
-        "<a b=c/>",
-        "<a b=\"c/>",
-        "<a b=\"1\" b=\"2\"/>",
-        "<a>&</a>",
-        "<a>&x;</a>",
-        "<a b=\"<\"/>",
-        "<a></a>\n<b></b>",
-    ] {
-        let quiet = std::panic::catch_unwind(|| elements(file));
-        assert!(quiet.is_err(), "{file}");
+    #[test]
+    fn a_thin_rectangle_has_a_row_of_dots_in_it() {
+        let dots = |height: f64| {
+            let mut svg = Svg::default();
+            svg.dots((6.0, 20.0), (60.0, height));
+            let mut elements = elements(&format!("<svg>\n{}</svg>\n", svg.elements));
+            assert_eq!(elements.len(), 2);
+            elements.remove(0)
+        };
+        let row = dots(2.0);
+        assert_eq!(row.get("points"), Some("8,21 64,21"));
+        assert_eq!(row.get("stroke-dasharray"), Some("2 4"));
+        assert_eq!(dots(11.0).get("points"), Some("8,25.5 64,25.5"));
+        assert_eq!(dots(12.0).get("fill"), Some("url(#dots)"));
+    }
+
+    #[test]
+    fn what_is_not_well_formed_is_seen() {
+        for file in [
+            "<a>",
+            "</a>",
+            "<a></b>",
+            "<a b=c/>",
+            "<a b=\"c/>",
+            "<a b=\"1\" b=\"2\"/>",
+            "<a>&</a>",
+            "<a>&x;</a>",
+            "<a b=\"<\"/>",
+            "<a></a>\n<b></b>",
+        ] {
+            let quiet = std::panic::catch_unwind(|| elements(file));
+            assert!(quiet.is_err(), "{file}");
+        }
     }
 }

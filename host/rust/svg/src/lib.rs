@@ -1,4 +1,10 @@
-//! The elements of an SVG file, with presentation attributes alone: every viewer knows those.
+//! The elements of an SVG file, with presentation attributes alone: every viewer knows those. For
+//! the tests of pictures also a reader of such files, and where their elements are.
+
+#![forbid(unsafe_code)]
+
+pub mod read;
+pub mod room;
 
 /// All text is monospaced, so that its width is known without the font: some 0.6 of its size a
 /// letter.
@@ -118,6 +124,3 @@ impl Svg {
         )
     }
 }
-
-#[cfg(test)]
-pub mod tests;
