@@ -5,7 +5,7 @@ use crate::line::{lines, Call, Line};
 use crate::manager::{contenders, lent, Bound, Contender, Grant, Shown, TREE};
 use waylluqen_compare::library::{self, change_table, write_operations};
 use waylluqen_compare::near::{disturb, near_record, widen};
-use waylluqen_compare::tables::{any_address, good_table, some_operation_words, Table};
+use waylluqen_compare::tables::{any_address, good_table, some_operation_words, Good, Table};
 use waylluqen_model::random::Random;
 use waylluqen_model::{self as model, MAPPING_WORDS, MOST_MAPPINGS};
 
@@ -83,20 +83,37 @@ fn compare_lookup(table: &Table, address: u64) -> Shown {
     expected
 }
 
+/// The words of the mappings, and behind them room for more: mostly for few, where any words are,
+/// zeros, or zeros but for one word.
+fn some_words(random: &mut Random, good: &Good) -> Vec<u64> {
+    let room = MOST_MAPPINGS - good.mappings.len();
+    let spare = match random.below(8) {
+        0 => random.up_to(room as u64),
+        _ => random.below(3),
+    };
+    let mut words = good.words(random, room.min(spare as usize));
+    let behind = &mut words[good.mappings.len() * MAPPING_WORDS..];
+    if random.once_in(4) {
+        return words;
+    }
+    behind.fill(0);
+    if random.once_in(3) && !behind.is_empty() {
+        let place = random.below(behind.len() as u64) as usize;
+        behind[place] = random.next_u64();
+    }
+    words
+}
+
 /// A random table, most of them good, with a request near its mappings and addresses in it.
 fn compare_random(random: &mut Random) {
-    let largest = random.pick(&[8, 40, MOST_MAPPINGS as u64]);
+    // Few are large: small ones have as many edges, and are quickly compared.
+    let largest = random.pick(&[8, 40, 40, 512, MOST_MAPPINGS as u64]);
     let good = good_table(random, largest);
-    let spare = random.below(3) as usize;
-    let room = MOST_MAPPINGS - good.mappings.len();
     let mut table = Table {
         space: good.space,
-        words: good.words(random, spare.min(room)),
+        words: some_words(random, &good),
         count: good.mappings.len() as u64,
     };
-    if random.once_in(2) {
-        table.words[good.mappings.len() * MAPPING_WORDS..].fill(0);
-    }
     let mut record = near_record(random, &good);
     disturb(random, &good, &mut table, &mut record);
     let mut request = record.request();
