@@ -7,9 +7,13 @@ use waylluqen_model::random::Random;
 use waylluqen_model::{Space, PAGE};
 
 /// The room of the tables that are timed.
-pub const SIZES: [usize; 4] = [16, 64, 256, 512];
+pub const SIZES: [usize; 6] = [16, 64, 256, 512, 1024, 4096];
 
-const LOOK_UPS: usize = 64;
+/// How many look-ups a line has: fewer in a large table, where one goes through so many mappings
+/// that 64 of them would take longer than a batch should.
+fn look_ups(room: usize) -> usize {
+    (65_536 / room).min(64)
+}
 
 #[derive(Clone, Copy)]
 pub enum Call {
@@ -109,12 +113,26 @@ fn look_up(room: usize) -> Line {
         let [address, size, ..] = mappings[random.below(room as u64) as usize];
         address + random.below(size)
     };
-    let calls = (0..LOOK_UPS).map(|_| Call::Lookup(address())).collect();
+    let calls = (0..look_ups(room))
+        .map(|_| Call::Lookup(address()))
+        .collect();
     Line::new("look-up", room, table(space, &mappings, room), calls)
 }
 
+/// A page mapped into an empty table and unmapped again: nearly all that such a call writes are the
+/// zeros behind the last mapping.
+fn empty(room: usize) -> Line {
+    let (space, _) = space_and_mappings(room);
+    let calls = vec![
+        Call::Bind(Request::map(space.start, PAGE, OTHER_OBJECT, 0)),
+        Call::Bind(Request::unmap(space.start, PAGE)),
+    ];
+    let table = table(space, &[], room);
+    Line::new("map into an empty table", room, table, calls)
+}
+
 /// The lines of a table with so much room. A mapping of three pages is at every third place.
-fn lines_of(room: usize) -> [Line; 5] {
+fn lines_of(room: usize) -> [Line; 6] {
     let middle = room / 6 * 3 + 2;
     let replace: Change = |[address, size, ..]| Request::map(address, size, OTHER_OBJECT, 0);
     let split: Change = |[address, ..]| Request::map(address + PAGE, PAGE, OTHER_OBJECT, 0);
@@ -124,6 +142,7 @@ fn lines_of(room: usize) -> [Line; 5] {
         line("map into one and undo", room, room - 2, middle, split),
         line("the same at the front", room, room - 2, 2, split),
         line("unmap and map", room, room, middle, unmap),
+        empty(room),
         look_up(room),
     ]
 }
