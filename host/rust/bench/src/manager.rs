@@ -73,6 +73,13 @@ pub fn contenders() -> Vec<&'static Contender> {
     lent().chain([&TREE]).collect()
 }
 
+/// Among the contenders, the place of the plain version for which a number is lowest.
+pub fn lowest_plain(number: impl Fn(usize) -> f64) -> usize {
+    (1..=PLAIN.len())
+        .min_by(|&one, &other| number(one).total_cmp(&number(other)))
+        .expect("there is a plain version")
+}
+
 struct Library {
     words: Vec<u64>,
     count: u64,

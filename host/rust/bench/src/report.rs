@@ -1,53 +1,87 @@
 //! The tables as docs/BENCHMARKS.md has them.
 
 use crate::line::Line;
-use crate::manager::{Contender, PLAIN};
+use crate::manager::{lowest_plain, Contender, PLAIN};
 use crate::script::Measured;
 use crate::timing::{Spread, Times};
 
 /// The places of the library, of the plain versions and of the tree among the contenders.
-const LIBRARY: usize = 0;
-const TREE: usize = PLAIN.len() + 1;
+pub const LIBRARY: usize = 0;
+pub const TREE: usize = PLAIN.len() + 1;
 
-/// The plain version for which a number is lowest.
-fn lowest_plain(number: impl Fn(usize) -> f64) -> usize {
-    (1..=PLAIN.len())
-        .min_by(|&one, &other| number(one).total_cmp(&number(other)))
-        .expect("there is a plain version")
-}
+/// From so many mappings on we hold ourselves to the quickest plain version.
+const HELD_FROM: usize = 64;
 
 fn head(columns: &[&str]) {
     println!("| {} |", columns.join(" | "));
     println!("|{}", "---|".repeat(columns.len()));
 }
 
+/// The quickest plain version, and the library's time by its.
+fn by_time(times: &Times) -> (usize, Spread) {
+    let quickest = times.quickest_plain();
+    (quickest, times.ratio(LIBRARY, quickest))
+}
+
+/// The plain version of the fewest instructions, and the library's by its.
+fn by_instructions(counts: &[f64]) -> (usize, f64) {
+    let fewest = lowest_plain(|at| counts[at]);
+    (fewest, counts[LIBRARY] / counts[fewest])
+}
+
 fn print_summary(line: &Line, times: &Times, counts: Option<&Vec<f64>>, names: &[&str]) {
     let median = |at| times.of_call(at).median;
-    let quickest = lowest_plain(median);
-    let Spread {
-        low,
-        median: ratio,
-        high,
-    } = times.ratio(LIBRARY, quickest);
+    let (quickest, ratio) = by_time(times);
     print!(
-        "| {} | {} | {:.0} | {:.0} ({}) | {:.0} | {ratio:.2} | {low:.2} to {high:.2} | {:.2} |",
+        "| {} | {} | {:.0} | {:.0} ({}) | {:.0} | {:.2} | {:.2} to {:.2} | {:.2} | {:.2} |",
         line.what,
         line.room,
         median(LIBRARY),
         median(quickest),
         names[quickest],
         median(TREE),
+        ratio.median,
+        ratio.low,
+        ratio.high,
         times.ratio(LIBRARY, TREE).median,
+        median(LIBRARY) / line.room as f64,
     );
     if let Some(counts) = counts {
-        let fewest = lowest_plain(|at| counts[at]);
-        let ratio = counts[LIBRARY] / counts[fewest];
+        let (fewest, ratio) = by_instructions(counts);
         print!(
             " {:.0} | {:.0} ({}) | {:.0} | {ratio:.2} |",
             counts[LIBRARY], counts[fewest], names[fewest], counts[TREE]
         );
     }
     println!();
+}
+
+/// The highest of the ratios that we hold ourselves to, with its line.
+fn highest(lines: &[Line], ratios: &[f64]) -> (f64, String) {
+    let held = lines.iter().zip(ratios);
+    let held = held.filter(|(line, _)| line.room >= HELD_FROM);
+    let highest = held.max_by(|(_, one), (_, other)| one.total_cmp(other));
+    let (line, ratio) = highest.expect("there are such lines");
+    (*ratio, line.name())
+}
+
+/// How near the library is to the quickest plain version where it is furthest from it.
+fn verdict(lines: &[Line], by_time: &[f64], by_instructions: Option<&[f64]>) -> String {
+    let most = |ratios: &[f64], what: &str| {
+        let (ratio, line) = highest(lines, ratios);
+        format!("{ratio:.2} by {what} ({line})")
+    };
+    let mut most_of_each = vec![most(by_time, "time")];
+    most_of_each.extend(by_instructions.map(|ratios| most(ratios, "instructions")));
+    let most = most_of_each.join(" and ");
+    format!("From {HELD_FROM} mappings on, of the quickest plain version at most {most}.")
+}
+
+fn print_verdict(lines: &[Line], times: &[Times], counts: Option<&[Vec<f64>]>) {
+    let times: Vec<f64> = times.iter().map(|times| by_time(times).1.median).collect();
+    let instructions = |counts: &Vec<f64>| by_instructions(counts).1;
+    let counts: Option<Vec<f64>> = counts.map(|counts| counts.iter().map(instructions).collect());
+    println!("\n{}", verdict(lines, &times, counts.as_deref()));
 }
 
 /// Every contender's number for every line.
@@ -67,13 +101,7 @@ fn print_each(what: &str, lines: &[Line], names: &[&str], number: impl Fn(usize,
     }
 }
 
-pub fn print_calls(
-    contenders: &[&Contender],
-    lines: &[Line],
-    times: &[Times],
-    counts: Option<&[Vec<f64>]>,
-) {
-    let names: Vec<&str> = contenders.iter().map(|contender| contender.name).collect();
+fn print_summaries(lines: &[Line], times: &[Times], counts: Option<&[Vec<f64>]>, names: &[&str]) {
     let mut columns = vec![
         "calls",
         "mappings",
@@ -83,6 +111,7 @@ pub fn print_calls(
         "library / plain",
         "8 of 10 rounds",
         "library / BTreeMap",
+        "ns a mapping",
     ];
     if counts.is_some() {
         columns.extend([
@@ -95,8 +124,19 @@ pub fn print_calls(
     head(&columns);
     for (place, line) in lines.iter().enumerate() {
         let counts = counts.map(|counts| &counts[place]);
-        print_summary(line, &times[place], counts, &names);
+        print_summary(line, &times[place], counts, names);
     }
+}
+
+pub fn print_calls(
+    contenders: &[&Contender],
+    lines: &[Line],
+    times: &[Times],
+    counts: Option<&[Vec<f64>]>,
+) {
+    let names: Vec<&str> = contenders.iter().map(|contender| contender.name).collect();
+    print_summaries(lines, times, counts, &names);
+    print_verdict(lines, times, counts);
     print_each("Nanoseconds a call", lines, &names, |place, at| {
         times[place].of_call(at).median
     });
@@ -142,4 +182,38 @@ pub fn print_script(measured: &Measured) {
         records(program.median),
         0,
     );
+}
+
+#[cfg(test)]
+mod tests {
+    use super::*;
+    use crate::line::lines;
+
+    /// A ratio for each line, all lower than the one that a line has by its name.
+    fn ratios(lines: &[Line], name: &str, ratio: f64) -> Vec<f64> {
+        let of = |line: &Line| match line.room {
+            // Not among those that we hold ourselves to.
+            16 => 9.0,
+            _ if line.name() == name => ratio,
+            _ => ratio - 0.001,
+        };
+        lines.iter().map(of).collect()
+    }
+
+    #[test]
+    fn the_verdict_is_the_highest_ratio_from_64_mappings_on() {
+        let lines = lines();
+        let times = ratios(&lines, "the same at the front, 4096", 0.886);
+        let counts = ratios(&lines, "look-up, 64", 1.034);
+        assert_eq!(
+            verdict(&lines, &times, Some(&counts)),
+            "From 64 mappings on, of the quickest plain version at most 0.89 by time \
+             (the same at the front, 4096) and 1.03 by instructions (look-up, 64)."
+        );
+        assert_eq!(
+            verdict(&lines, &times, None),
+            "From 64 mappings on, of the quickest plain version at most 0.89 by time \
+             (the same at the front, 4096)."
+        );
+    }
 }

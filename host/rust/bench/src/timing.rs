@@ -1,7 +1,7 @@
 //! Times of several contenders, taken in turn in one run.
 
 use crate::line::{Call, Line};
-use crate::manager::{Contender, Manager};
+use crate::manager::{lowest_plain, Contender, Manager};
 use std::hint::black_box;
 use std::time::Instant;
 
@@ -38,6 +38,11 @@ pub struct Times {
 impl Times {
     pub fn of_call(&self, contender: usize) -> Spread {
         Spread::of(self.rounds.iter().map(|round| round[contender]).collect())
+    }
+
+    /// The plain version whose middle time is the lowest.
+    pub fn quickest_plain(&self) -> usize {
+        lowest_plain(|at| self.of_call(at).median)
     }
 
     /// One contender's time by another's, in each round by itself.
