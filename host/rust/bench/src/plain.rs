@@ -7,7 +7,7 @@ use crate::rules::{bad_mapping, bounds, capacity, check_list, check_request};
 use crate::rules::{checked_end, masked_end, Bounds, Mapping};
 use std::marker::PhantomData;
 use std::ops::Range;
-use waylluqen::{Refusal, Request, Space, Translation, LIMIT, MAX_OBJECT};
+use waylluqen::{Refusal, Request, Space, Translation, LIMIT, MAPPING_WORDS, MAX_OBJECT};
 use waylluqen::{OPERATION_WORDS, PAGE_SIZE};
 
 /// The places of mappings in a table, or why it is refused.
@@ -131,19 +131,30 @@ impl Way for Folded {
     }
 }
 
-/// Words that the nearest cache has room for, where writing is the quickest.
-const NEAR: usize = 4096;
+/// So many mappings are cleared sooner than the C library is called.
+const FEW: usize = 4;
+
+/// Of so many mappings the words stay in the nearest cache, where writing is the quickest.
+const NEAR: usize = 1024;
 
 /// How many words are looked at together.
 const BLOCK: usize = 128;
 
-/// Makes the words zero. A long run is looked at first, and written only where it is not zero yet:
-/// from a cache further away, reading costs less than writing.
-fn clear(words: &mut [u64]) {
-    if words.len() <= NEAR {
-        words.fill(0);
-        return;
+/// Makes the words of these places zero, in the way that is the quickest for so many.
+fn clear(places: &mut [Mapping]) {
+    if places.len() <= FEW {
+        places.fill([0; MAPPING_WORDS]);
+    } else if places.len() <= NEAR {
+        places.as_flattened_mut().fill(0);
+    } else {
+        clear_far(places.as_flattened_mut());
     }
+}
+
+/// Looks first, and writes only what is not zero yet: in a cache further away, reading costs less
+/// than writing.
+#[inline(never)]
+fn clear_far(words: &mut [u64]) {
     let (blocks, rest) = words.as_chunks_mut::<BLOCK>();
     for block in blocks {
         if block.iter().fold(0, |all, word| all | word) != 0 {
@@ -232,7 +243,7 @@ fn change(
     {
         *place = *new;
     }
-    clear(table[after..].as_flattened_mut());
+    clear(&mut table[after..]);
     Ok(Grant {
         operations: number as u64,
         count: after as u64,
@@ -269,12 +280,13 @@ impl<W: Way> Manager for Plain<W> {
 
 #[test]
 fn any_word_is_cleared() {
-    for length in [1, NEAR, NEAR + 2 * BLOCK + 3] {
-        for place in 0..length {
-            let mut words = vec![0; length];
-            words[place] = 1 << (place % 64);
-            clear(&mut words);
-            assert!(words.iter().all(|&word| word == 0), "{place} of {length}");
+    for length in [1, FEW, NEAR, NEAR + BLOCK / MAPPING_WORDS + 1] {
+        for place in 0..length * MAPPING_WORDS {
+            let mut table = vec![[0; MAPPING_WORDS]; length];
+            table.as_flattened_mut()[place] = 1 << (place % 64);
+            clear(&mut table);
+            let is_zero = table.as_flattened().iter().all(|&word| word == 0);
+            assert!(is_zero, "word {place} of {length} mappings");
         }
     }
 }
