@@ -6,6 +6,7 @@
 mod agree;
 mod count;
 mod cut;
+mod growth;
 mod line;
 mod manager;
 mod plain;
@@ -16,11 +17,20 @@ mod timing;
 mod tree;
 
 use std::env;
+use std::fs;
 use std::path::Path;
 use std::process::ExitCode;
 
 /// Where what is written goes; `host/bench` makes it.
 const FOLDER: &str = "BENCH_FOLDER";
+
+/// Writes the picture, and tells where it is.
+fn write_growth(file: &Path, picture: &str) -> Result<(), String> {
+    let name = file.display();
+    fs::write(file, picture).map_err(|error| format!("{name}: {error}"))?;
+    eprintln!("waylluqen-bench: the growth as a picture is {name}");
+    Ok(())
+}
 
 fn print_all(folder: &Path) -> Result<(), String> {
     agree::assert_equal();
@@ -28,6 +38,8 @@ fn print_all(folder: &Path) -> Result<(), String> {
     let counts = count::count(&contenders, &lines, &folder.join("counts"));
     let times = timing::measure(&contenders, &lines);
     report::print_calls(&contenders, &lines, &times, counts.as_deref());
+    let growth = growth::draw(&growth::panels(&lines, &times));
+    write_growth(&folder.join("growth.svg"), &growth)?;
     let measured = script::measure(&folder.join("million.script"));
     report::print_script(&measured.map_err(|error| format!("the script program: {error}"))?);
     Ok(())

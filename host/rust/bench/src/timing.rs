@@ -36,6 +36,11 @@ pub struct Times {
 }
 
 impl Times {
+    #[cfg(test)]
+    pub fn of_rounds(rounds: Vec<Vec<f64>>) -> Times {
+        Times { rounds }
+    }
+
     pub fn of_call(&self, contender: usize) -> Spread {
         Spread::of(self.rounds.iter().map(|round| round[contender]).collect())
     }
