@@ -189,22 +189,41 @@ fn joined_sixty_four(t: &[u64], at: usize) -> u64
         | joined_sixteen(t, at + 48)
 }
 
+// `turns` times sixty-four of them.
+fn joined_turns(t: &[u64], from: usize, turns: usize) -> u64
+    requires { ⌜ from + 64 * turns ≤ length (now t) ⌝ }
+    ensures { λ seen. ⌜ Tells (now (t .entry)) from (64 * turns) seen ⌝ }
+{
+    let mut i: usize = 0;
+    let mut seen: u64 = 0;
+    while i < turns {
+        seen = seen | joined_sixty_four(t, from + 64 * i);
+        i += 1;
+    }
+    seen
+}
+
+// All words from `from` on, which are few, one by one.
+fn joined_from(t: &[u64], from: usize) -> u64
+    requires { ⌜ from ≤ length (now t) ⌝ }
+    ensures { λ seen. ⌜ Tells (now (t .entry)) from (length (now (t .entry)) - from) seen ⌝ }
+{
+    let mut i = from;
+    let mut seen: u64 = 0;
+    while i < t.len() {
+        seen = seen | t[i];
+        i += 1;
+    }
+    seen
+}
+
 // Whether all words from `from` on are zero: one look at all of them joined.
 fn are_zero_from(t: &[u64], from: usize) -> bool
     requires { ⌜ from ≤ length (now t) ⌝ }
     ensures { λ b. ⌜ (b ≡ true → ZeroFrom (now (t .entry)) from) × (ZeroFrom (now (t .entry)) from → b ≡ true) ⌝ }
 {
-    let mut i = from;
-    let mut seen: u64 = 0;
-    while i < t.len() {
-        if 64 <= t.len() - i {
-            seen = seen | joined_sixty_four(t, i);
-            i += 64;
-        } else {
-            seen = seen | t[i];
-            i += 1;
-        }
-    }
+    let turns = (t.len() - from) / 64;
+    let seen = joined_turns(t, from, turns) | joined_from(t, from + 64 * turns);
     seen == 0
 }
 

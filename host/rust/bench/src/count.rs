@@ -11,6 +11,11 @@ use std::process::{Command, Stdio};
 /// The argument with which this program runs itself under valgrind.
 pub const COUNT: &str = "count";
 
+/// Has the C library move and clear long runs in a loop: of an instruction that repeats itself
+/// valgrind counts each byte.
+const IN_A_LOOP: &str = "glibc.cpu.x86_rep_movsb_threshold=1000000000:\
+    glibc.cpu.x86_rep_stosb_threshold=1000000000";
+
 /// What valgrind counts, from its first instruction to its last.
 #[inline(never)]
 fn counted_calls(manager: &mut dyn Manager, line: &Line, list: &mut [u64]) {
@@ -46,6 +51,7 @@ pub fn count(contenders: &[&Contender], lines: &[Line], folder: &Path) -> Option
     fs::create_dir_all(folder).ok()?;
     let file = folder.join("counted");
     let mut valgrind = Command::new("valgrind");
+    valgrind.env("GLIBC_TUNABLES", IN_A_LOOP);
     valgrind.args(["--tool=callgrind", "--quiet"]);
     valgrind.arg(format!("--callgrind-out-file={}", file.display()));
     // Some valgrinds leave the hash at the end of a Rust function's name.

@@ -59,7 +59,7 @@ fn print_summary(line: &Line, times: &Times, counts: Option<&Vec<f64>>, names: &
 /// The highest of the ratios that we hold ourselves to, with its line.
 fn highest(lines: &[Line], ratios: &[f64]) -> (f64, String) {
     let held = lines.iter().zip(ratios);
-    let held = held.filter(|(line, _)| line.room >= HELD_FROM);
+    let held = held.filter(|(line, _)| line.room >= HELD_FROM && line.table.count > 0);
     let highest = held.max_by(|(_, one), (_, other)| one.total_cmp(other));
     let (line, ratio) = highest.expect("there are such lines");
     (*ratio, line.name())
@@ -194,6 +194,7 @@ mod tests {
         let of = |line: &Line| match line.room {
             // Not among those that we hold ourselves to.
             16 => 9.0,
+            _ if line.table.count == 0 => 9.0,
             _ if line.name() == name => ratio,
             _ => ratio - 0.001,
         };
