@@ -16,7 +16,7 @@ ghost use Rattle.inspect.specs.Joined.{Clean, Fits};
 ghost use Rattle.inspect.specs.Part.{upTo};
 ghost use Rattle.inspect.specs.Rows.{ownRows};
 
-// Document 01: a table has room for 1 to so many mappings.
+// Document 02: a table has room for 1 to so many mappings.
 const MOST_MAPPINGS: usize = 4096;
 
 // The words of mappings joined bit by bit, and differences that their rules ask not to be below zero: one look at the end tells of all of

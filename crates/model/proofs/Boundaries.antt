@@ -1,5 +1,5 @@
 -- The edges of the rules, computed: the request check at 31 inputs around them, one listing (Exactly covers them all);
--- the longest table, whose 16,384 words no claim writes out.
+-- the longest table, whose 16,384 words no claim writes out, and one of a mapping more.
 -- Assumes nothing.
 use mathlib.Core.Path.{_≡_, refl}
 use mathlib.Core.Bool.{Bool, true, _&&_}

@@ -14,7 +14,7 @@ limit = 2 ^ 48
 abbrev pub lastObject : ℕ
 lastObject = 2 ^ 32 - 1
 
--- a table has room for 1 to so many mappings
+-- document 02: a table has room for 1 to so many mappings
 abbrev pub mostMappings : ℕ
 mostMappings = 4096
 

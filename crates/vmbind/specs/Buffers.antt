@@ -5,7 +5,7 @@ use mathlib.Core.Path.{_≡_}
 use mathlib.Core.Logic.{_⊎_}
 use mathlib.Core.Bool.{Bool, true, false}
 use mathlib.Core.List.{List, [], _++_}
-use Prim.Native.Nat.{ℕ, zero, suc, _+_, _-_, _^_, _≤_, _<_, min}
+use Prim.Native.Nat.{ℕ, zero, suc, _+_, _-_, _*_, _^_, _≤_, _<_, min}
 use lib.IntN.{ℤ, pos, negsuc}
 use lib.ListN.{length, take, drop}
 use Rattle.program.specs.Script.{start, output}
@@ -18,6 +18,10 @@ use Rattle.vmbind.specs.declared.Run.{Run}
 use Rattle.vmbind.specs.declared.Wrote.{Wrote}
 use Rattle.vmbind.specs.declared.Got.{Got}
 use Rattle.vmbind.specs.declared.Got.the-variants.{Bytes, Nothing, Failure}
+
+-- document 02: the buffers, two of words and two of bytes, are together below 64 KiB
+abbrev pub Small : List ℕ → List ℕ → List ℕ → List ℕ → Type 0
+Small table operations input output = 8 * length table + 8 * length operations + length input + length output < 65536
 
 -- ── the unread bytes ──
 

@@ -1,5 +1,6 @@
 -- `vmbind::main` meets its contract.
 -- Assumes nothing.
+use native.Mathlib.Omega.{arith}
 use Rattle.vmbind.proofs.Runs.{put-front, put-inside}
 use borrow.Author.Needs.{needs}
 use Rattle.vmbind.proofs.main.Statement.{statement}
@@ -12,7 +13,7 @@ slice-aggregate-follow-2 : tie.Need-slice-aggregate-follow-2
 slice-aggregate-follow-2 c = search needs
 
 follow-requires : tie.Need-follow-requires
-follow-requires c κs = search needs
+follow-requires c κs = (search needs, search needs, omega arith)
 
 put-message-requires : tie.Need-put-message-requires
 put-message-requires c κs = search needs

@@ -332,6 +332,59 @@ fn ask_range(tally: &mut Tally, table: &Table, from: u64, to: u64) {
     }
 }
 
+/// Places of a run of words: those at its ends, and some between.
+fn places(words: usize) -> Vec<usize> {
+    let at_start = 0..words.min(70);
+    let at_end = words.saturating_sub(70)..words;
+    let mut all: Vec<usize> = at_start
+        .chain((0..words).step_by(61))
+        .chain(at_end)
+        .collect();
+    all.sort_unstable();
+    all.dedup();
+    all
+}
+
+/// A stale word anywhere behind the last mapping, or none, is zero after a grant: in tables with
+/// room for about 1,024 mappings more, where the library begins to look first, and in the longest.
+#[test]
+fn a_stale_word_far_behind() {
+    const MAPPINGS: usize = 3;
+    let mut random = Random::new(127);
+    let mut tally = Tally::new(128);
+    let space = plain_spaces()[0];
+    let good = fill_space(&mut random, space, MAPPINGS as u64);
+    let [first, .., last] = good.mappings[..] else {
+        panic!("{MAPPINGS} mappings");
+    };
+    let last_end = last.address + last.size;
+    for room in [1023, 1026, 1027, 1028, 1029, MOST_MAPPINGS] {
+        let mut table = Table {
+            space,
+            words: good.words(&mut random, 0),
+            count: MAPPINGS as u64,
+        };
+        table.words.resize(room * MAPPING_WORDS, 0);
+        let behind = MAPPINGS * MAPPING_WORDS;
+        for place in places((room - MAPPINGS) * MAPPING_WORDS) {
+            table.words[behind + place] = 1 << (place % 64);
+            // Inside one mapping, over one, over all of them: more, as many, fewer, or none left.
+            ask_range(&mut tally, &table, first.address, first.address + PAGE);
+            ask_range(
+                &mut tally,
+                &table,
+                first.address,
+                first.address + first.size,
+            );
+            ask_range(&mut tally, &table, first.address, last_end);
+            table.words[behind + place] = 0;
+        }
+        ask_range(&mut tally, &table, first.address, last_end);
+    }
+    tally.print("a stale word far behind");
+    assert!(tally.granted.iter().all(|&times| times >= 3_000));
+}
+
 #[test]
 fn words_that_are_no_operation() {
     let mapping = [PAGE, PAGE, 7, 0];
