@@ -37,8 +37,8 @@ fn none_joined() -> Joined
     }
 }
 
-// One mapping more, which is to start at `from` or behind. A difference below zero wraps to a very large number; the last one is the place of
-// the last byte of its part of the object.
+// One mapping more, which is to start at `from` or behind. A difference below zero wraps to a very large number. The last
+// one is where the last byte of its part of the object is.
 fn join(j: Joined, from: u64, m: Mapping) -> Joined
     ensures { λ k. ⌜ (Clean k → Clean j × (from ≤ limit + limit → Fits from m)) ⌝ }
 {

@@ -1,5 +1,5 @@
--- The papers' rules in words; their numbers are written out, but for the most mappings of a table. A call gives a line's
--- answer exactly if its rule is broken and no line's above it.
+-- The papers' rules in words; their numbers are written out, but for the most mappings of a table. A call gives a
+-- line's answer exactly if its rule is broken and no line's above it.
 use Rattle.model.specs.Prelude.{_≡_, _⊎_, _↔_, List, [], _∷_, flatMap, List·Memᴰ, ℕ, suc, _+_, _*_, _/_, _%_, _^_, _≤_, _<_, pos, _-ℤ_, length, take, Space, Mapping, Request, Shown, Grant}
 use Rattle.model.specs.Calls.{Reply, refused, answered, mostMappings, end, stop, requestOf, recordOf, Table, mappings, badPlace, operations, old, rests, translate, Asking, numbers, bytes, asked, grantOf, bind, lookup, checkRequest, verdictReply, decodedReply, answerReply, foundReply}
 

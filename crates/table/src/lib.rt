@@ -209,7 +209,8 @@ fn write_replacement(t: &mut [u64], i: usize, new: Replacement)
     }
 }
 
-// Makes the words behind the last of `after` mappings zero, where there were `count`: those of the mappings that are gone, and those behind them.
+// Makes the words behind the last of `after` mappings zero, where there were `count`: those of the mappings that are gone,
+// and those behind them.
 fn clear_behind(t: &mut [u64], count: usize, after: usize)
     requires { ⌜ (4 * count ≤ length (now t)) × (4 * after ≤ length (now t)) ⌝ }
     ensures { λ _. ⌜ now (t .exit) ≡ cleared (now (t .entry)) (4 * after) ⌝ }

@@ -15,7 +15,8 @@ ghost use Rattle.script.specs.Progress.{Advances};
 ghost use Rattle.vmbind.specs.Buffers.{gotOf, unread, standing, behind, message};
 ghost use Rattle.vmbind.specs.Buffers.{Small, Brings, Refilled, Writes, Held, Carries, Ran};
 
-// The input and the output; with the table and the operations of a request on it the buffers are 57,456 bytes together (`Small`).
+// The input and the output; with the table and the operations of a request on it the buffers are 57,456 bytes together
+// (`Small`).
 const INPUT_BYTES: usize = 8192;
 
 const OUTPUT_BYTES: usize = 12288;

@@ -1,7 +1,7 @@
 -- Words that are zero, joined bit by bit: the joined word is zero exactly if each is.
 -- Assumes nothing.
 use mathlib.Core.Path.{_≡_, refl, sym, ap, _∙_}
-use mathlib.Core.List.{List, [], _∷_, _++_}
+use mathlib.Core.List.{List, [], _∷_}
 use Prim.Native.Nat.{ℕ, _+_, _-_, _≤_, _<_}
 use native.Mathlib.Omega.{arith}
 use lib.Bits.{bitOr, or-add-and, and-le-l, and-le-r}
@@ -16,6 +16,14 @@ or-zero a b e = (omega (arith, e, or-add-and a b, and-le-r a b), omega (arith, e
 zero-or : (a b : ℕ) → a ≡ 0 → b ≡ 0 → bitOr a b ≡ 0
 zero-or a b p q = omega (arith, p, q, or-add-and a b)
 
+take-zeros : (n m : ℕ) → take {A = ℕ} n (replicate (n + m) 0) ≡ replicate n 0
+take-zeros n m =
+    rw (← replicate-append-replicate {A = ℕ} n m 0) (take-at (replicate n 0) (replicate m 0) n (length-replicate n 0))
+
+drop-zeros : (n m : ℕ) → drop {A = ℕ} n (replicate (n + m) 0) ≡ replicate m 0
+drop-zeros n m =
+    rw (← replicate-append-replicate {A = ℕ} n m 0) (drop-at (replicate n 0) (replicate m 0) n (length-replicate n 0))
+
 module _ (ws : List ℕ) (from : ℕ) where
   -- ── words and those behind them ──
 
@@ -24,17 +32,15 @@ module _ (ws : List ℕ) (from : ℕ) where
 
   zeros-first : (n m : ℕ) → Zeros ws from (n + m) → Zeros ws from n
   zeros-first n m z =
-      sym (take-take n (n + m) (drop from ws) (omega arith))
-      ∙ rw (z, ← replicate-append-replicate {A = ℕ} n m 0) (take-at (replicate n 0) (replicate m 0) n (length-replicate n 0))
+      sym (take-take n (n + m) (drop from ws) (omega arith)) ∙ ap (take n) z ∙ take-zeros n m
 
   zeros-second : (n m : ℕ) → from + n ≤ length ws → Zeros ws from (n + m) → Zeros ws (from + n) m
   zeros-second n m h z =
       let l : n ≤ length (drop from ws) = simp length-drop (omega arith) in
-      let e : drop {A = ℕ} n (replicate (n + m) 0) ≡ replicate m 0 =
-      rw (← replicate-append-replicate {A = ℕ} n m 0) (drop-at (replicate n 0) (replicate m 0) n (length-replicate n 0)) in
-      rw (← drop-drop n from ws) (sym (drop-take n m (drop from ws) l) ∙ ap (drop n) z ∙ e)
+      rw (← drop-drop n from ws) (sym (drop-take n m (drop from ws) l) ∙ ap (drop n) z ∙ drop-zeros n m)
 
-  pub both-tell : {a b : ℕ} (n m : ℕ) → from + n ≤ length ws → Tells ws from n a → Tells ws (from + n) m b → Tells ws from (n + m) (bitOr a b)
+  pub both-tell : {a b : ℕ} (n m : ℕ) → from + n ≤ length ws → Tells ws from n a → Tells ws (from + n) m b
+      → Tells ws from (n + m) (bitOr a b)
   both-tell {a} {b} n m h t u = record {
     words-zero = λ e. let o = or-zero a b e in zeros-both n m (t .words-zero (o .0)) (u .words-zero (o .1));
     seen-zero = λ z. zero-or a b (t .seen-zero (zeros-first n m z)) (u .seen-zero (zeros-second n m h z));
@@ -51,12 +57,14 @@ module _ (ws : List ℕ) (from : ℕ) where
       record { words-zero = λ z. e ∙ rw z; seen-zero = λ z. ap (λ (l : List ℕ). getD l 0 0) (sym e ∙ z) }
 
   pub four-tell : {a b c d : ℕ} (n : ℕ) → from + (n + n + n + n) ≤ length ws → Tells ws from n a → Tells ws (from + n) n b
-      → Tells ws (from + (n + n)) n c → Tells ws (from + (n + n + n)) n d → Tells ws from (n + n + n + n) (bitOr (bitOr (bitOr a b) c) d)
+      → Tells ws (from + (n + n)) n c → Tells ws (from + (n + n + n)) n d
+      → Tells ws from (n + n + n + n) (bitOr (bitOr (bitOr a b) c) d)
   four-tell n h p q r s =
       both-tell (n + n + n) n (omega arith) (both-tell (n + n) n (omega arith) (both-tell n n (omega arith) p q) r) s
 
   -- those up to place i, and m more
-  pub more-tell : {a b : ℕ} (i m : ℕ) → from ≤ i → i + m ≤ length ws → Tells ws from (i - from) a → Tells ws i m b → Tells ws from (i + m - from) (bitOr a b)
+  pub more-tell : {a b : ℕ} (i m : ℕ) → from ≤ i → i + m ≤ length ws → Tells ws from (i - from) a → Tells ws i m b
+      → Tells ws from (i + m - from) (bitOr a b)
   more-tell i m h k t u =
       let at : from + (i - from) ≡ i = omega arith in
       let e : i + m - from ≡ i - from + m = omega arith in

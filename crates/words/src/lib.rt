@@ -115,7 +115,8 @@ fn up_few(t: &mut [u64], from: usize, to: usize, n: usize)
     }
 }
 
-// Copies the `n` words from `from` on to `to` on, where `to` is not above `from`: the first ones first, sixteen to a turn.
+// Copies the `n` words from `from` on to `to` on, where `to` is not above `from`: the first ones first, sixteen to a
+// turn.
 fn move_down(t: &mut [u64], from: usize, to: usize, n: usize)
     requires { ⌜ (to ≤ from) × (from + n ≤ length (now t)) ⌝ }
     ensures { λ _. ⌜ now (t .exit) ≡ moved (now (t .entry)) from to n ⌝ }
@@ -227,8 +228,8 @@ fn are_zero_from(t: &[u64], from: usize) -> bool
     seen == 0
 }
 
-// Makes the words from `from` on zero. Where they are many they are looked at first: mostly they are zero already, and to read them is quicker
-// than to write them.
+// Makes the words from `from` on zero. Where they are many they are looked at first: mostly they are zero already, and
+// to read them is quicker than to write them.
 pub fn clear_from(t: &mut [u64], from: usize)
     requires { ⌜ from ≤ length (now t) ⌝ }
     ensures { λ _. ⌜ now (t .exit) ≡ cleared (now (t .entry)) from ⌝ }
