@@ -19,8 +19,8 @@ ghost use Rattle.inspect.specs.Rows.{ownRows};
 // Document 02: a table has room for 1 to so many mappings.
 const MOST_MAPPINGS: usize = 4096;
 
-// The words of mappings joined bit by bit, and differences that their rules ask not to be below zero: one look at the end tells of all of
-// them, without a branch for each.
+// The words of mappings joined bit by bit, and differences that their rules ask to be from 0 up to 2^48: one look at the
+// end tells of all of them, without a branch for each.
 struct Joined {
     bits: u64,
     objects: u64,
