@@ -8,7 +8,7 @@ use waylluqen_compare::numbers::{disturb_space, good_space, other64};
 use waylluqen_compare::requests::{disturb_record, good_record, place, LONGEST_RECORD};
 use waylluqen_compare::tables::{
     any_address, any_table, disturb_table, fill_space, good_table, large_spaces, plain_spaces,
-    small_spaces, some_operation_words, Good, Table, MANY_MAPPINGS,
+    small_spaces, some_operation_words, Good, Table, MANY_MAPPINGS, MOST_WORDS,
 };
 use waylluqen_model::random::Random;
 use waylluqen_model::table::mapping_at;
@@ -42,6 +42,7 @@ pub fn calls(random: &mut Random) -> Vec<Call> {
     }
     if round.random.once_in(LARGE_TABLE) {
         round.large_table();
+        round.long_table();
     }
     round.history();
     round.calls
@@ -112,24 +113,46 @@ impl Round<'_> {
             _ => 12,
         };
         let good = good_table(self.random, largest);
-        self.near(&good);
+        let words = self.some_words(&good);
+        self.near(&good, &words);
     }
 
     fn large_table(&mut self) {
         let (space, mappings) = large(self.random);
         let good = fill_space(self.random, space, mappings as u64);
-        self.near(&good);
+        let words = self.some_words(&good);
+        self.near(&good, &words);
+    }
+
+    /// Few mappings in a long table, and zeros behind them, or zeros but for one word.
+    fn long_table(&mut self) {
+        let good = good_table(self.random, 12);
+        let mut words = good.words(self.random, 0);
+        let used = words.len();
+        words.resize(
+            MOST_WORDS - self.random.below(2_000) as usize * MAPPING_WORDS,
+            0,
+        );
+        if self.random.once_in(2) {
+            let behind = (words.len() - used) as u64;
+            words[used + self.random.below(behind) as usize] = self.random.next_u64();
+        }
+        self.near(&good, &words);
+    }
+
+    /// The words of the mappings, with room for few more, of any words.
+    fn some_words(&mut self, good: &Good) -> Vec<u64> {
+        let spare = self.random.pick(&[0, 0, 1, 2, 3]);
+        let spare = spare.min(MOST_MAPPINGS - good.mappings.len());
+        good.words(self.random, spare)
     }
 
     /// A good table or one near it, by numbers, by record, and looked at.
-    fn near(&mut self, good: &Good) {
-        let spare = self.random.pick(&[0, 0, 1, 2, 3]);
-        let spare = spare.min(MOST_MAPPINGS - good.mappings.len());
-        let words = good.words(self.random, spare);
+    fn near(&mut self, good: &Good, words: &[u64]) {
         for _ in 0..3 {
             let mut table = Table {
                 space: good.space,
-                words: words.clone(),
+                words: words.to_vec(),
                 count: good.mappings.len() as u64,
             };
             let mut record = near_record(self.random, good);

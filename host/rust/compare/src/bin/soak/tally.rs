@@ -5,7 +5,10 @@ use waylluqen_compare::library::{Bound, Shown};
 use waylluqen_compare::marks::Marks;
 use waylluqen_compare::tables::MANY_MAPPINGS;
 use waylluqen_model::answer::{NO_ROOM, UNALIGNED};
-use waylluqen_model::MOST_MAPPINGS;
+use waylluqen_model::{MAPPING_WORDS, MOST_MAPPINGS};
+
+/// Where there are more words behind the last mapping, the library looks at them before it clears.
+const MANY_WORDS: usize = 4096;
 
 #[derive(Default)]
 pub struct Tally {
@@ -20,6 +23,9 @@ pub struct Tally {
     /// Calls on good tables of more than many mappings; those on full ones of as many as may be.
     on_large: u64,
     on_full: u64,
+    /// Grants in tables that had many words behind the last mapping; those with a stale one there.
+    long: u64,
+    stale: u64,
     marks: Marks,
     mapped: u64,
     unmapped: u64,
@@ -69,6 +75,13 @@ impl Tally {
             self.on_large += 1;
             self.on_full += u64::from(mappings == MOST_MAPPINGS as u64);
         }
+        if let Asked::Numbers(_, Ok(_)) | Asked::Record(_, Ok(_)) = &call.asked {
+            let behind = &call.table.words[mappings as usize * MAPPING_WORDS..];
+            if behind.len() > MANY_WORDS {
+                self.long += 1;
+                self.stale += u64::from(behind.iter().any(|&word| word != 0));
+            }
+        }
     }
 
     fn count_bound(&mut self, bound: &Bound) {
@@ -102,6 +115,8 @@ impl Tally {
             largest,
             on_large,
             on_full,
+            long,
+            stale,
             marks,
             mapped,
             unmapped,
@@ -122,6 +137,8 @@ impl Tally {
              mapped, {unmapped} not; {passed} checks passed\n\
              {on_large} calls on good tables of more than {MANY_MAPPINGS} mappings, {on_full} of them \
              on full ones of {MOST_MAPPINGS}\n\
+             {long} requests granted with more than {MANY_WORDS} words behind the last mapping, {stale} \
+             of them with a stale one\n\
              {kept} old mappings kept, {elsewhere} of them at another address than the new one; \
              {around} maps had one that was not kept between two that were\n\
              refused {}",
