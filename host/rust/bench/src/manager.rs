@@ -1,6 +1,6 @@
 //! What is timed: managers of one address space, the library's and plain ones beside it.
 
-use crate::plain::{Checked, Folded, Masked, Merged, Plain};
+use crate::plain::{Checked, Folded, Joined, Masked, Merged, Plain};
 use crate::tree::Tree;
 use waylluqen::{Refusal, Request, Space, Table, Translation};
 
@@ -38,7 +38,7 @@ pub const LIBRARY: Contender = Contender {
     },
 };
 
-pub const PLAIN: [Contender; 4] = [
+pub const PLAIN: [Contender; 5] = [
     Contender {
         name: "checked",
         begin: |words, count| Box::new(Plain::<Checked>::new(words, count)),
@@ -54,6 +54,10 @@ pub const PLAIN: [Contender; 4] = [
     Contender {
         name: "folded",
         begin: |words, count| Box::new(Plain::<Folded>::new(words, count)),
+    },
+    Contender {
+        name: "joined",
+        begin: |words, count| Box::new(Plain::<Joined>::new(words, count)),
     },
 ];
 

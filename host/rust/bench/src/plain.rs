@@ -1,5 +1,5 @@
 //! The same calls in plain safe Rust, without proofs, on the same lent words. The check and the
-//! search are written in four ways, since only a clock knows the quickest.
+//! search are written in five ways, since only a clock knows the quickest.
 
 use crate::cut::{cut, lower_rest, map_operation, new_mapping, upper_rest};
 use crate::manager::{Bound, Grant, Manager, Shown};
@@ -30,6 +30,10 @@ pub struct Merged;
 
 /// Collects the broken rules of all mappings, and looks for the place only if there are any.
 pub struct Folded;
+
+/// Checks as the library does: joins the words and the differences of all mappings, looks at them
+/// once, and leaves the reservation to a search.
+pub struct Joined;
 
 /// The places by halves, in a table that keeps its rules.
 fn find(mappings: &[Mapping], first: u64, last: u64) -> Range<usize> {
@@ -104,15 +108,16 @@ fn broken_rules(bounds: &Bounds, floor: u64, mapping: &Mapping) -> (u64, u64) {
     (bits | (signs >> 63), end)
 }
 
+/// Refuses the table if a mapping breaks a rule.
 #[cold]
-fn lowest_bad_place(bounds: &Bounds, mappings: &[Mapping]) -> usize {
+fn find_bad(bounds: &Bounds, mappings: &[Mapping]) -> Result<(), Refusal> {
     let mut floor = bounds.start;
     let bad = mappings.iter().position(|mapping| {
         let (holds, end) = masked_end(bounds, floor, mapping);
         floor = end;
         !holds
     });
-    bad.expect("a rule is broken")
+    bad.map_or(Ok(()), |place| Err(bad_mapping(place)))
 }
 
 impl Way for Folded {
@@ -125,7 +130,44 @@ impl Way for Folded {
             floor = end;
         }
         if broken != 0 {
-            return Err(bad_mapping(lowest_bad_place(bounds, mappings)));
+            find_bad(bounds, mappings)?;
+        }
+        Ok(find(mappings, first, last))
+    }
+}
+
+/// Whether all mappings keep their rules where nothing is reserved.
+fn all_fit(bounds: &Bounds, mappings: &[Mapping]) -> bool {
+    let mut floor = bounds.start;
+    let (mut words, mut objects, mut differences) = (0, 0, 0);
+    for &[address, size, object, offset] in mappings {
+        let behind_first = size.wrapping_sub(1);
+        words |= address | size | offset;
+        objects |= object;
+        differences |= behind_first
+            | object.wrapping_sub(1)
+            | address.wrapping_sub(floor)
+            | offset.wrapping_add(behind_first);
+        floor = address.wrapping_add(size);
+    }
+    words.is_multiple_of(PAGE_SIZE)
+        & (words <= LIMIT)
+        & (objects <= MAX_OBJECT)
+        & (differences < LIMIT)
+        & (floor <= bounds.end)
+}
+
+/// Whether no mapping of an ascending table has a byte in the reservation.
+fn spare_reservation(bounds: &Bounds, mappings: &[Mapping]) -> bool {
+    let is_below = |mapping: &Mapping| mapping[0] + mapping[1] <= bounds.reserved_start;
+    let first = mappings.get(mappings.partition_point(is_below));
+    first.is_none_or(|mapping| bounds.reserved_end <= mapping[0])
+}
+
+impl Way for Joined {
+    fn hits(bounds: &Bounds, mappings: &[Mapping], first: u64, last: u64) -> Places {
+        if !(all_fit(bounds, mappings) && spare_reservation(bounds, mappings)) {
+            find_bad(bounds, mappings)?;
         }
         Ok(find(mappings, first, last))
     }
