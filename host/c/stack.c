@@ -108,9 +108,9 @@ static size_t painted(void (*make)(void), uint8_t paint)
 }
 
 /* Page 4p is the first of the three that place p has; the fourth is a gap. Behind the last are four pages more. */
-static void fill_table(size_t room, size_t count, size_t bad_place)
+static void fill_table(size_t room, size_t count, size_t bad_place, int behind)
 {
-    memset(table, UNWRITTEN_BYTE, sizeof table);
+    memset(table, behind, sizeof table);
     for (size_t place = 0; place < count; place++) {
         const struct mapping mapping = {4 * place * PAGE, 3 * PAGE, place == bad_place ? 0 : place + 1, place * PAGE};
         memcpy(table + place * MAPPING_WORDS, &mapping, sizeof mapping);
@@ -132,11 +132,15 @@ struct test_case {
     uint64_t op;
     uint64_t from;
     uint64_t to;
-    int bad; /* whether the mapping at the place is bad */
+    int bad;   /* whether the mapping at the place is bad */
+    int zeros; /* whether the words behind the last mapping are zero already */
 };
 
-#define MAPS(where, from, to) where, WAYLLUQEN_OP_MAP, from, to, 0
-#define UNMAPS(where, from, to) where, WAYLLUQEN_OP_UNMAP, from, to, 0
+/* As much as there is room for: no mapping is in the table. */
+#define EMPTY SIZE_MAX
+
+#define MAPS(where, from, to) where, WAYLLUQEN_OP_MAP, from, to, 0, 0
+#define UNMAPS(where, from, to) where, WAYLLUQEN_OP_UNMAP, from, to, 0, 0
 
 static const struct test_case cases[] = {
     /* Those behind move up: by one, into a gap or for a hole; by two. */
@@ -159,10 +163,15 @@ static const struct test_case cases[] = {
     {0, 0, MAPS(FIRST_PLACE, 0, 3)},
     {0, 0, UNMAPS(MIDDLE_PLACE, 1, 4)},
     {0, 0, UNMAPS(LAST_PLACE, 3, 4)},
+    /* Into an empty table, of any words behind or of zeros: what is behind is looked at, and cleared. */
+    {0, EMPTY, MAPS(FIRST_PLACE, 0, 3)},
+    {0, EMPTY, FIRST_PLACE, WAYLLUQEN_OP_MAP, 0, 3, 0, 1},
+    {0, EMPTY, UNMAPS(LAST_PLACE, 0, 3)},
+    {0, EMPTY, LAST_PLACE, WAYLLUQEN_OP_UNMAP, 0, 3, 0, 1},
     /* Refusals: of the mappings, of the request, and for want of room. */
-    {5, 0, FIRST_PLACE, WAYLLUQEN_OP_MAP, 0, 3, 1},
-    {5, 0, MIDDLE_PLACE, WAYLLUQEN_OP_MAP, 0, 3, 1},
-    {5, 0, LAST_PLACE, WAYLLUQEN_OP_UNMAP, 0, 3, 1},
+    {5, 0, FIRST_PLACE, WAYLLUQEN_OP_MAP, 0, 3, 1, 0},
+    {5, 0, MIDDLE_PLACE, WAYLLUQEN_OP_MAP, 0, 3, 1, 0},
+    {5, 0, LAST_PLACE, WAYLLUQEN_OP_UNMAP, 0, 3, 1, 0},
     {6, 0, MAPS(FIRST_PLACE, 3, 3)},
     {7, 0, MAPS(LAST_PLACE, 0, 9)},
     {11, 0, MAPS(FIRST_PLACE, 3, 4)},
@@ -189,7 +198,7 @@ static void lend_case(const struct test_case *test, size_t room)
                             .address = (4 * place + test->from) * PAGE,
                             .size = (4 * (end - place) + test->to - test->from) * PAGE};
 
-    fill_table(room, count, test->bad ? place : room);
+    fill_table(room, count, test->bad ? place : room, test->zeros ? 0 : UNWRITTEN_BYTE);
     call.request = (waylluqen_request){fields.op, fields.address, fields.size, fields.object, 0};
     call.address = fields.address;
     encode(call.record, &fields);

@@ -38,19 +38,19 @@ fn none_joined() -> Joined
 }
 
 // One mapping more, which is to start at `from` or behind. A difference below zero wraps to a very large number. The last
-// one is where the last byte of its part of the object is.
+// one is where the mapping's last byte is in its object.
 fn join(j: Joined, from: u64, m: Mapping) -> Joined
     ensures { λ k. ⌜ (Clean k → Clean j × (from ≤ limit + limit → Fits from m)) ⌝ }
 {
-    let behind_first = std::num::wrapping_sub_u64(m.size, 1);
+    let last_byte = std::num::wrapping_sub_u64(m.size, 1);
     Joined {
         bits: j.bits | m.address | m.size | m.offset,
         objects: j.objects | m.object,
         differences: j.differences
-            | behind_first
+            | last_byte
             | std::num::wrapping_sub_u64(m.object, 1)
             | std::num::wrapping_sub_u64(m.address, from)
-            | std::num::wrapping_add_u64(m.offset, behind_first),
+            | std::num::wrapping_add_u64(m.offset, last_byte),
     }
 }
 

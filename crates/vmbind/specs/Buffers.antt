@@ -20,8 +20,8 @@ use Rattle.vmbind.specs.declared.Got.{Got}
 use Rattle.vmbind.specs.declared.Got.the-variants.{Bytes, Nothing, Failure}
 
 -- document 02: the buffers, two of words and two of bytes, are together below 64 KiB
-abbrev pub Small : List ℕ → List ℕ → List ℕ → List ℕ → Type 0
-Small table operations input output = 8 * length table + 8 * length operations + length input + length output < 65536
+abbrev pub Below64KiB : List ℕ → List ℕ → List ℕ → List ℕ → Type 0
+Below64KiB table operations input output = 8 * length table + 8 * length operations + length input + length output < 65536
 
 -- ── the unread bytes ──
 

@@ -13,10 +13,10 @@ ghost use Rattle.program.specs.Text.{ascii};
 ghost use Rattle.text.specs.Lines.{Put};
 ghost use Rattle.script.specs.Progress.{Advances};
 ghost use Rattle.vmbind.specs.Buffers.{gotOf, unread, standing, behind, message};
-ghost use Rattle.vmbind.specs.Buffers.{Small, Brings, Refilled, Writes, Held, Carries, Ran};
+ghost use Rattle.vmbind.specs.Buffers.{Below64KiB, Brings, Refilled, Writes, Held, Carries, Ran};
 
 // The input and the output; with the table and the operations of a request on it the buffers are 57,456 bytes together
-// (`Small`).
+// (`Below64KiB`).
 const INPUT_BYTES: usize = 8192;
 
 const OUTPUT_BYTES: usize = 12288;
@@ -238,7 +238,7 @@ fn follow(
     input: &mut [u8; INPUT_BYTES],
     output: &mut [u8; OUTPUT_BYTES],
 ) -> End
-    requires { ⌜ (now table ≡ start .table .words) × (now operations ≡ start .operations) × Small (now table) (now operations) (now input) (now output) ⌝ }
+    requires { ⌜ (now table ≡ start .table .words) × (now operations ≡ start .operations) × Below64KiB (now table) (now operations) (now input) (now output) ⌝ }
     ensures { λ e. ⌜ Ran e (now (table .exit)) (now (operations .exit)) (now (input .exit)) ⌝ }
 {
     let mut run = Run {

@@ -141,13 +141,13 @@ fn all_fit(bounds: &Bounds, mappings: &[Mapping]) -> bool {
     let mut floor = bounds.start;
     let (mut words, mut objects, mut differences) = (0, 0, 0);
     for &[address, size, object, offset] in mappings {
-        let behind_first = size.wrapping_sub(1);
+        let last_byte = size.wrapping_sub(1);
         words |= address | size | offset;
         objects |= object;
-        differences |= behind_first
+        differences |= last_byte
             | object.wrapping_sub(1)
             | address.wrapping_sub(floor)
-            | offset.wrapping_add(behind_first);
+            | offset.wrapping_add(last_byte);
         floor = address.wrapping_add(size);
     }
     words.is_multiple_of(PAGE_SIZE)

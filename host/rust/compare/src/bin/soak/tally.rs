@@ -113,17 +113,11 @@ impl Tally {
             checks,
             granted,
             largest,
-            on_large,
-            on_full,
-            long,
-            stale,
-            marks,
             mapped,
             unmapped,
             refused: [passed, refused @ ..],
+            ..
         } = self;
-        let kept: u64 = marks.kept.iter().sum();
-        let (elsewhere, around) = (marks.elsewhere, marks.around);
         let calls = by_numbers + by_record + lookups + checks;
         let refused: Vec<String> = (1..)
             .zip(refused)
@@ -135,14 +129,36 @@ impl Tally {
              record, {lookups} look-ups, {checks} checks\n\
              {granted} requests granted, on tables of up to {largest} mappings; {mapped} addresses \
              mapped, {unmapped} not; {passed} checks passed\n\
-             {on_large} calls on good tables of more than {MANY_MAPPINGS} mappings, {on_full} of them \
+             {}\n{}\n\
+             refused {}",
+            self.of_tables(),
+            self.of_marks(),
+            refused.join(", ")
+        )
+    }
+
+    fn of_tables(&self) -> String {
+        let Tally {
+            on_large,
+            on_full,
+            long,
+            stale,
+            ..
+        } = self;
+        format!(
+            "{on_large} calls on good tables of more than {MANY_MAPPINGS} mappings, {on_full} of them \
              on full ones of {MOST_MAPPINGS}\n\
              {long} requests granted with more than {MANY_WORDS} words behind the last mapping, {stale} \
-             of them with a stale one\n\
-             {kept} old mappings kept, {elsewhere} of them at another address than the new one; \
-             {around} maps had one that was not kept between two that were\n\
-             refused {}",
-            refused.join(", ")
+             of them with a stale one"
+        )
+    }
+
+    fn of_marks(&self) -> String {
+        let kept: u64 = self.marks.kept.iter().sum();
+        let (elsewhere, around) = (self.marks.elsewhere, self.marks.around);
+        format!(
+            "{kept} old mappings kept, {elsewhere} of them at another address than the new one; \
+             {around} maps had one that was not kept between two that were"
         )
     }
 }
