@@ -2,7 +2,7 @@
 -- Assumes nothing.
 use mathlib.Core.Path.{_≡_, sym, _∙_}
 use mathlib.Core.List.{List, [], _∷_}
-use Prim.Native.Nat.{ℕ, zero, suc, _≤_}
+use Prim.Native.Nat.{ℕ, zero, suc, _+_, _≤_}
 use lib.Dec.{eqb→eq}
 use Rattle.model.specs.declared.Request.{Request}
 use Rattle.model.specs.declared.Space.{Space}
@@ -35,8 +35,10 @@ module _ (s : Space) (t : Table) where
     kept = eqb→eq _ _ (p .places .0) ∙ length-mappings (t .count) (t .words);
   }
 
-  pub valid : answered tt ≡ verdict (tableRows s [] t) → Valid (t .words) (t .count)
-  valid e = valid-by (table-passed s [] t (answered-passed (tableRows s [] t) tt tt (sym e) .0))
+  pub valid : answered tt ≡ verdict (tableRows s [] t) → (s .start + s .size ≤ limit) × Valid (t .words) (t .count)
+  valid e =
+      let rows : TablePassed s [] t = table-passed s [] t (answered-passed (tableRows s [] t) tt tt (sym e) .0) in
+      (omega (tests, rows .space), valid-by rows)
 
   -- the rows 1 to 5 of a request, with n words lent for operations
   abbrev lentRows : ℕ → List Row

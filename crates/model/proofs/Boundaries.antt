@@ -12,7 +12,7 @@ use Rattle.model.specs.Rows.{Reply, refused, answered, decide}
 use Rattle.model.specs.Rules.{byNumbers, formRows, requestRows}
 use Rattle.model.specs.Calls.{spaceOf, checkRows, checkRequest, littleEndian, requestOf, recordRows, bytesOf, recordOf, numbers, bindRows, bind, lookup}
 use Rattle.model.specs.Table.{Table, mappingsIn, badPlace, tableRows}
-use Rattle.model.specs.Cut.{below, above, hits, operations, translate}
+use Rattle.model.specs.Cut.{below, above, hits, operations, translate, runEnd}
 use Rattle.model.specs.Exactly.{Each}
 use Rattle.model.proofs.Tests.{and-both}
 
@@ -122,8 +122,8 @@ too-long-bound : mapInto 16388 ≡ refused 2 0
 unfolding bind bindRows formRows tableRows decide
 too-long-bound = refl
 
-longest-shown : lookup plain (zeros 16384) 0 ≡ answered Nothing
-unfolding lookup tableRows decide badPlace mappingsIn translate
+longest-shown : lookup plain (zeros 16384) 0 ≡ answered (record { shown = Nothing; bytes = 65536 })
+unfolding lookup tableRows decide badPlace mappingsIn translate runEnd
 longest-shown = refl
 
 too-long-shown : lookup plain (zeros 16388) 0 ≡ refused 2 0

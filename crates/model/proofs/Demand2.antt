@@ -11,7 +11,7 @@ use Rattle.model.specs.Prelude.{Space, Mapping, Request, Grant}
 use Rattle.model.specs.Rows.{answered}
 use Rattle.model.specs.Rules.{stop}
 use Rattle.model.specs.Table.{Table, capacity, mappings, wordsOf, written, tableRows}
-use Rattle.model.specs.Cut.{after, translate}
+use Rattle.model.specs.Cut.{after, translate, see}
 use Rattle.model.specs.Calls.{asked, Outcome, outcomeFor, tableAfter, lookup}
 use Rattle.model.specs.Exactly.{TableRules}
 use Rattle.model.specs.Grants.{Effect, Demand2}
@@ -25,9 +25,9 @@ use Rattle.model.proofs.Granted.{Good, Granting, granting, table-chain,
 use Rattle.model.proofs.Translate.{translate-under, translate-over, translate-map, translate-unmap}
 
 -- a look-up on a table that passes 1 to 5 is answered
-pub lookup-good : (s : Space) (n : ℕ) (t : Table) (x : ℕ) → Good s n t → lookup s t x ≡ answered (translate (mappings t) x)
+pub lookup-good : (s : Space) (n : ℕ) (t : Table) (x : ℕ) → Good s n t → lookup s t x ≡ answered (see s (mappings t) x)
 unfolding lookup
-lookup-good s n t x g = passes (tableRows s [] t) (translate (mappings t) x) (passed-table (none-between g))
+lookup-good s n t x g = passes (tableRows s [] t) (see s (mappings t) x) (passed-table (none-between g))
 
 -- the words behind the last mapping
 zeros-behind : (n : ℕ) (ms : List Mapping) → drop (4 * length ms) (written n ms) ≡ replicate (n - 4 * length ms) 0

@@ -5,11 +5,11 @@ use mathlib.Core.Logic.{_⊎_, _↔_, inl, inr}
 use mathlib.Core.List.{List, [], _∷_, _++_, flatMap, append-nil, List·Memᴰ·head, List·Memᴰ·tail}
 use Prim.Native.Nat.{ℕ, _+_, _≤_, _<_}
 use lib.ListN.{length}
-use Rattle.model.specs.Prelude.{Space, Request, Shown, Grant}
+use Rattle.model.specs.Prelude.{Space, Request, Seen, Grant}
 use Rattle.model.specs.Rows.{Row, Reply, refused, answered, decide, numberOf}
 use Rattle.model.specs.Rules.{requestRows}
 use Rattle.model.specs.Table.{Table, mappings, operationsRow, tableRows}
-use Rattle.model.specs.Cut.{new, after, operations, old, rests, translate}
+use Rattle.model.specs.Cut.{new, after, operations, old, rests, see}
 use Rattle.model.specs.Calls.{Asking, numbers, bytes, asked, recordRow, roomRow, bindRows, grantOf, outcomeFor, bind, lookup, checkRows, checkRequest, requestOf, recordRows}
 use Rattle.model.specs.Exactly.{_∈_, RefusalTable, otherwise, Gives, checkRefusals, refusal, WellFormed, operationsLine, RoomRule, bindRefusals, lookupRefusals, TableRules, Exactly}
 use Rattle.model.proofs.Tests.{tests, Alls, Says}
@@ -118,14 +118,14 @@ unchanged s t os q n p e = go (decide (bindRows s t (length os) q) (grantOf (ask
 of-lookup : (s : Space) (t : Table) (x : ℕ) → Answers (lookup s t x) (lookupRefusals s t x)
 unfolding lookup
 of-lookup s t x =
-    let v : Shown = translate (mappings t) x in
+    let v : Seen = see s (mappings t) x in
     subst (λ (ws : List Row). Answers (decide ws v) (lookupRefusals s t x)) (append-nil (tableRows s [] t))
     (match-answers (λ a. a) v (tableRows s [] t ++ []) (lookupRefusals s t x) (table-match v s t [] (λ u. u) (λ vs u m. m) [] _ (λ _. refl)))
 
 lookup-only : (s : Space) (t : Table) (x n p : ℕ) → lookup s t x ≡ refused n p → n ∈ (1 ∷ 2 ∷ 4 ∷ 5 ∷ [])
 lookup-only s t x n p e = go (of-lookup s t x (refused n p) .0 e)
   where
-    number : {a b c d : ℕ} → _≡_ {A = Reply Shown} (refused a b) (refused c d) → a ≡ c
+    number : {a b c d : ℕ} → _≡_ {A = Reply Seen} (refused a b) (refused c d) → a ≡ c
     number e = ap numberOf e
 
     go : Gives (lookupRefusals s t x) (refused n p) → n ∈ (1 ∷ 2 ∷ 4 ∷ 5 ∷ [])

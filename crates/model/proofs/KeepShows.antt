@@ -12,11 +12,11 @@ use Rattle.model.specs.Rows.{Reply, answered}
 use Rattle.model.specs.Rules.{end, stop}
 use Rattle.model.specs.Table.{Table, mappings}
 use Rattle.model.specs.Cut.{mappingOf, hits, operationOf, old}
-use Rattle.model.specs.Calls.{asked, bind, tableAfter, lookup}
+use Rattle.model.specs.Calls.{asked, bind, tableAfter, lookup, shownReply}
 use Rattle.model.specs.Exactly.{_∈_, TableRules}
 use Rattle.model.specs.Grants.{Effect, keepWord, KeepShows}
 use Rattle.model.proofs.Numbers.{order}
-use Rattle.model.proofs.Translate.{lookup-words}
+use Rattle.model.proofs.Translate.{shows-member}
 use Rattle.model.proofs.Table.{top, chain-rules}
 use Rattle.model.proofs.Hits.{hits-hit}
 use Rattle.model.proofs.Operations.{old-only, each-operation}
@@ -38,30 +38,30 @@ module _ (s : Space) (n : ℕ) (r : Request) (t u : Table) (good : Good s n t) (
   rules : TableRules s (mappings t)
   rules = chain-rules s 0 (top s) (mappings t) (table-chain s n t good)
 
-  before : (m : Mapping) → m ∈ mappings t → (x : ℕ) → m .address ≤ x → x < end m → lookup s t x ≡ answered (Object (m .object) (m .offset + (x - m .address)))
-  before m i x l k = lookup-good s n t x good ∙ ap answered (lookup-words s (mappings t) x rules .0 m i l k)
+  before : (m : Mapping) → m ∈ mappings t → (x : ℕ) → m .address ≤ x → x < end m → shownReply (lookup s t x) ≡ answered (Object (m .object) (m .offset + (x - m .address)))
+  before m i x l k = ap shownReply (lookup-good s n t x good) ∙ ap answered (shows-member (mappings t) m x (rules .1) i (l, k))
 
-  mapped : r .op ≡ 0 → (x : ℕ) → r .address ≤ x → x < stop r → lookup s u x ≡ answered (Object (r .object) (r .offset + (x - r .address)))
-  mapped e x l k = done .answers x ∙ ap answered (done .maps e x l k)
+  mapped : r .op ≡ 0 → (x : ℕ) → r .address ≤ x → x < stop r → shownReply (lookup s u x) ≡ answered (Object (r .object) (r .offset + (x - r .address)))
+  mapped e x l k = ap shownReply (done .answers x) ∙ ap answered (done .maps e x l k)
 
   -- a byte of m in the range shows what it showed
   same : (m : Mapping) → m ∈ mappings t → (x : ℕ) → m .address ≤ x → x < end m → r .address ≤ x → x < stop r
-      → Kept r m ↔ (lookup s u x ≡ lookup s t x)
+      → Kept r m ↔ (shownReply (lookup s u x) ≡ shownReply (lookup s t x))
   same m i x l k lo hi = (stays, kept (order (r .op) 0))
     where
-      stays : Kept r m → lookup s u x ≡ lookup s t x
+      stays : Kept r m → shownReply (lookup s u x) ≡ shownReply (lookup s t x)
       stays h =
           let c = agree-crosswise m (mappingOf r) .0 (h .1) in
           let f : r .offset + (x - r .address) ≡ m .offset + (x - m .address) = omega (arith, c .1) in
           mapped (h .0) x lo hi ∙ ap₂ (λ (o k : ℕ). answered (Object o k)) (sym (c .0)) f ∙ sym (before m i x l k)
 
-      kept : (r .op ≤ 0) ⊎ (0 < r .op) → lookup s u x ≡ lookup s t x → Kept r m
+      kept : (r .op ≤ 0) ⊎ (0 < r .op) → shownReply (lookup s u x) ≡ shownReply (lookup s t x) → Kept r m
       kept (inl z) h =
           let e : r .op ≡ 0 = omega arith in
           let w = same-shown (sym (mapped e x lo hi) ∙ h ∙ before m i x l k) in
           (e, agree-crosswise m (mappingOf r) .1 (sym (w .0), omega (arith, w .1)))
       kept (inr z) h =
-          absurd (shown-nothing (sym (done .answers x ∙ ap answered (done .unmaps (omega (arith, may .form)) x lo hi)) ∙ h ∙ before m i x l k))
+          absurd (shown-nothing (sym (ap shownReply (done .answers x) ∙ ap answered (done .unmaps (omega (arith, may .form)) x lo hi)) ∙ h ∙ before m i x l k))
 
 pub keep-shows : KeepShows
 keep-shows s t os q g e = each-operation (λ o. (m : Mapping) → m ∈ old o → Shows o m) r (mappings t) of-hit (λ n m i. absurd (List·Memᴰ·not-nil i))
@@ -76,7 +76,7 @@ keep-shows s t os q g e = each-operation (λ o. (m : Mapping) → m ∈ old o �
     w = granting s t os q g e
 
     Shows : Operation → Mapping → Type 0
-    Shows o m = (x : ℕ) → m .address ≤ x → x < end m → r .address ≤ x → x < stop r → (keepWord o ≡ 1) ↔ (lookup s u x ≡ lookup s t x)
+    Shows o m = (x : ℕ) → m .address ≤ x → x < end m → r .address ≤ x → x < stop r → (keepWord o ≡ 1) ↔ (shownReply (lookup s u x) ≡ shownReply (lookup s t x))
 
     of-hit : (m : Mapping) → m ∈ hits r (mappings t) → (n : Mapping) → n ∈ old (operationOf r m) → Shows (operationOf r m) n
     of-hit m i n j = subst (Shows (operationOf r m)) (sym (old-only r m n j)) shows

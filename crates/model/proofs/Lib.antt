@@ -32,6 +32,8 @@ pub mod ByRows
 pub mod Exactly
 pub mod Granted
 pub mod Demand2
+pub mod Lookups
+pub mod Walk
 pub mod KeepShows
 pub mod Replays
 pub mod Demand3

@@ -9,38 +9,34 @@ use Rattle.model.specs.Prelude.{Mapping, Request, Nothing, Object}
 use Rattle.model.specs.Rules.{end, stop}
 use Rattle.model.specs.Cut.{lowerPart, upperPart, sized, prepend, below, above, mappingOf, newFor, new, after, insideTests, translate}
 use Rattle.model.specs.Exactly.{_∈_, Ascends}
-use Rattle.model.specs.Grants.{Lookup}
+use Rattle.model.specs.Lookups.{Has, Free}
 use Rattle.model.proofs.Tests.{tests, all-true, all-false}
 use Rattle.model.proofs.Actions.{each-mem}
 use Rattle.model.proofs.Window.{prepend-pos, prepend-append}
 use Rattle.model.proofs.Numbers.{order}
 
--- the byte address x lies inside m
-abbrev pub In : Mapping → ℕ → Type 0
-In m x = (m .address ≤ x) × (x < end m)
-
-in-or-not : (m : Mapping) (x : ℕ) → In m x ⊎ (In m x → ⊥)
-in-or-not m x = go (order (m .address) x) (order (end m) x)
+has-or-not : (m : Mapping) (x : ℕ) → Has m x ⊎ (Has m x → ⊥)
+has-or-not m x = go (order (m .address) x) (order (end m) x)
   where
-    go : (m .address ≤ x) ⊎ (x < m .address) → (end m ≤ x) ⊎ (x < end m) → In m x ⊎ (In m x → ⊥)
+    go : (m .address ≤ x) ⊎ (x < m .address) → (end m ≤ x) ⊎ (x < end m) → Has m x ⊎ (Has m x → ⊥)
     go (inl h) (inr k) = inl (h, k)
     go (inl h) (inl k) = inr (λ i. omega arith)
     go (inr h) k = inr (λ i. omega arith)
 
 -- ── a mapping in front of others ──
 
-pub translate-here : (m : Mapping) (ms : List Mapping) (x : ℕ) → In m x → translate (m ∷ ms) x ≡ Object (m .object) (m .offset + (x - m .address))
+pub translate-here : (m : Mapping) (ms : List Mapping) (x : ℕ) → Has m x → translate (m ∷ ms) x ≡ Object (m .object) (m .offset + (x - m .address))
 unfolding translate
 translate-here m ms x i = rw (all-true (insideTests m x) (omega tests), translate)
 
-pub translate-past : (m : Mapping) (ms : List Mapping) (x : ℕ) → (In m x → ⊥) → translate (m ∷ ms) x ≡ translate ms x
+pub translate-past : (m : Mapping) (ms : List Mapping) (x : ℕ) → (Has m x → ⊥) → translate (m ∷ ms) x ≡ translate ms x
 unfolding translate
 translate-past m ms x n = rw (all-false (insideTests m x) (λ t. n (omega tests)), translate)
 
-prepend-here : (m : Mapping) (ms : List Mapping) (x : ℕ) → In m x → translate (prepend m ms) x ≡ Object (m .object) (m .offset + (x - m .address))
+prepend-here : (m : Mapping) (ms : List Mapping) (x : ℕ) → Has m x → translate (prepend m ms) x ≡ Object (m .object) (m .offset + (x - m .address))
 prepend-here m ms x i = rw (prepend-pos m ms (omega arith)) (translate-here m ms x i)
 
-prepend-past : (m : Mapping) (ms : List Mapping) (x : ℕ) → (In m x → ⊥) → translate (prepend m ms) x ≡ translate ms x
+prepend-past : (m : Mapping) (ms : List Mapping) (x : ℕ) → (Has m x → ⊥) → translate (prepend m ms) x ≡ translate ms x
 prepend-past m ms x n = go (m .size)
   where
     go : (k : ℕ) → translate (sized k m ms) x ≡ translate ms x
@@ -52,9 +48,9 @@ prepend-past m ms x n = go (m .size)
 below-shows : (a : ℕ) (ms ns : List Mapping) (x : ℕ) → x < a → translate ns x ≡ Nothing → translate (below a ms ++ ns) x ≡ translate ms x
 unfolding below translate
 below-shows a [] ns x h e = e
-below-shows a (m ∷ ms) ns x h e = rw (← prepend-append) (go (in-or-not m x) (below-shows a ms ns x h e))
+below-shows a (m ∷ ms) ns x h e = rw (← prepend-append) (go (has-or-not m x) (below-shows a ms ns x h e))
   where
-    go : In m x ⊎ (In m x → ⊥) → translate (below a ms ++ ns) x ≡ translate ms x
+    go : Has m x ⊎ (Has m x → ⊥) → translate (below a ms ++ ns) x ≡ translate ms x
         → translate (prepend (lowerPart a m) (below a ms ++ ns)) x ≡ translate (m ∷ ms) x
     go (inl i) ih = prepend-here (lowerPart a m) (below a ms ++ ns) x (omega arith) ∙ sym (translate-here m ms x i)
     go (inr n) ih = prepend-past (lowerPart a m) (below a ms ++ ns) x (λ i. n (omega arith)) ∙ ih ∙ sym (translate-past m ms x n)
@@ -68,9 +64,9 @@ below-hides a (m ∷ ms) ns x h =
 above-shows : (b : ℕ) (ms : List Mapping) (x : ℕ) → b ≤ x → translate (above b ms) x ≡ translate ms x
 unfolding above
 above-shows b [] x h = refl
-above-shows b (m ∷ ms) x h = go (in-or-not m x) (above-shows b ms x h)
+above-shows b (m ∷ ms) x h = go (has-or-not m x) (above-shows b ms x h)
   where
-    go : In m x ⊎ (In m x → ⊥) → translate (above b ms) x ≡ translate ms x → translate (prepend (upperPart b m) (above b ms)) x ≡ translate (m ∷ ms) x
+    go : Has m x ⊎ (Has m x → ⊥) → translate (above b ms) x ≡ translate ms x → translate (prepend (upperPart b m) (above b ms)) x ≡ translate (m ∷ ms) x
     go (inl i) ih =
         prepend-here (upperPart b m) (above b ms) x (omega arith) ∙ ap (Object (m .object)) (omega arith) ∙ sym (translate-here m ms x i)
     go (inr n) ih = prepend-past (upperPart b m) (above b ms) x (λ i. n (omega arith)) ∙ ih ∙ sym (translate-past m ms x n)
@@ -80,7 +76,7 @@ unfolding above translate
 above-hides b [] x h = refl
 above-hides b (m ∷ ms) x h = prepend-past (upperPart b m) (above b ms) x (λ i. omega arith) ∙ above-hides b ms x h
 
-new-hides : (r : Request) (ns : List Mapping) (x : ℕ) → (In (mappingOf r) x → ⊥) → translate (new r ++ ns) x ≡ translate ns x
+new-hides : (r : Request) (ns : List Mapping) (x : ℕ) → (Has (mappingOf r) x → ⊥) → translate (new r ++ ns) x ≡ translate ns x
 new-hides r ns x n = go (r .op)
   where
     go : (op : ℕ) → translate (newFor op (mappingOf r) ++ ns) x ≡ translate ns x
@@ -116,24 +112,17 @@ module _ (r : Request) (ms : List Mapping) where
       go zero e = absurd (n e)
       go (suc i) e = in-range (suc i) e x h ∙ above-hides (stop r) ms x k
 
--- ── look-up ──
+-- ── mappings in order ──
 
 -- a mapping that is not the first lies behind it
-shows-member : (ms : List Mapping) (m : Mapping) (x : ℕ) → Ascends ms → m ∈ ms → In m x
+pub shows-member : (ms : List Mapping) (m : Mapping) (x : ℕ) → Ascends ms → m ∈ ms → Has m x
     → translate ms x ≡ Object (m .object) (m .offset + (x - m .address))
 shows-member (n ∷ ms) m x a (List·Memᴰ·head e) i = rw e (translate-here n ms x (rw e at i))
 shows-member (n ∷ ms) m x a (List·Memᴰ·tail k) i =
     let behind : end n ≤ m .address = each-mem (λ m. end n ≤ m .address) ms m (a .0) k in
     translate-past n ms x (λ j. omega arith) ∙ shows-member ms m x (a .1) k i
 
-pub hides-all : (ms : List Mapping) (x : ℕ) → ((m : Mapping) → m ∈ ms → (x < m .address) ⊎ (end m ≤ x)) → translate ms x ≡ Nothing
+pub hides-all : (ms : List Mapping) (x : ℕ) → Free ms x → translate ms x ≡ Nothing
 unfolding translate
 hides-all [] x h = refl
-hides-all (m ∷ ms) x h = translate-past m ms x (out (h m (List·Memᴰ·head refl))) ∙ hides-all ms x (λ n k. h n (List·Memᴰ·tail k))
-  where
-    out : (x < m .address) ⊎ (end m ≤ x) → In m x → ⊥
-    out (inl l) i = omega arith
-    out (inr l) i = omega arith
-
-pub lookup-words : Lookup
-lookup-words s ms x h = (λ m i l k. shows-member ms m x (h .1) i (l, k), hides-all ms x)
+hides-all (m ∷ ms) x h = translate-past m ms x (h m (List·Memᴰ·head refl)) ∙ hides-all ms x (λ n k. h n (List·Memᴰ·tail k))

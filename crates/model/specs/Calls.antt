@@ -1,9 +1,9 @@
 -- A request as it comes, the public calls (the answer and every lent word after it), and how code's answers are read.
-use Rattle.model.specs.Prelude.{List, [], _∷_, _++_, flatMap, ℕ, zero, suc, _+_, _*_, _/_, _%_, leb, eqb, length, getD, drop, Space, Mapping, Request, Shown, Grant}
+use Rattle.model.specs.Prelude.{List, [], _∷_, _++_, flatMap, ℕ, zero, suc, _+_, _*_, _/_, _%_, leb, eqb, length, getD, drop, Space, Mapping, Request, Shown, Seen, Grant}
 pub use Rattle.model.specs.Rows.{all, choose, Row, row, Reply, refused, answered, decide, verdict, numberOf}
 pub use Rattle.model.specs.Rules.{mostMappings, end, stop, byNumbers, spaceRow, formRows, requestRows}
 pub use Rattle.model.specs.Table.{Table, capacity, mappings, written, badPlace, operationsRow, tableRows}
-pub use Rattle.model.specs.Cut.{mappingOf, new, after, operations, restsOf, old, rests, translate}
+pub use Rattle.model.specs.Cut.{mappingOf, new, after, operations, restsOf, old, rests, translate, see}
 pub use Rattle.model.specs.Layout.{operationWords}
 use Rattle.model.specs.declared.Refusal.{Refusal}
 use Rattle.model.specs.declared.Refusal.the-variants.{BadSpace, BadTableLength, ShortOperations, BadCount, BadMapping, Unaligned, OutsideSpace, Reserved, BadObject, BadOffset, NoRoom, BadRecordLength, BadOp, BadFlags}
@@ -110,9 +110,14 @@ countAfter (answered g) count = g .count
 abbrev pub tableAfter : Table → Outcome → Table
 tableAfter t o = record { words = o .table; count = countAfter (o .answer) (t .count) }
 
--- a look-up, for any input: 1, 2, 4, 5, or what the address shows; it writes nowhere
-unfoldable pub lookup : Space → Table → ℕ → Reply Shown
-lookup s t x = decide (tableRows s [] t) (translate (mappings t) x)
+-- a look-up, for any input: 1, 2, 4, 5, or what the address shows and how far; it writes nowhere
+unfoldable pub lookup : Space → Table → ℕ → Reply Seen
+lookup s t x = decide (tableRows s [] t) (see s (mappings t) x)
+
+-- what it shows alone
+abbrev pub shownReply : Reply Seen → Reply Shown
+shownReply (refused n p) = refused n p
+shownReply (answered v) = answered (v .shown)
 
 -- document 01: Space, its four numbers: start, size, reserved start, reserved size
 abbrev pub spaceOf : ℕ → ℕ → ℕ → ℕ → Space
@@ -159,6 +164,6 @@ abbrev pub answerReply : Answer → Reply Grant
 answerReply (Granted g) = answered g
 answerReply (Refused w) = refusalReply w
 
-abbrev pub foundReply : Found → Reply Shown
+abbrev pub foundReply : Found → Reply Seen
 foundReply (Shows x) = answered x
 foundReply (FoundRefused w) = refusalReply w

@@ -1,6 +1,6 @@
--- How a request cuts the old mappings (document 01), what it hands the driver for them, and what a byte address shows:
--- of any list of mappings.
-use Rattle.model.specs.Prelude.{Bool, false, List, [], _∷_, _++_, map, ℕ, zero, suc, _+_, _-_, min, max, leb, ltb, eqb, ℤ, pos, negsuc, subℕ, Mapping, Request, Rests, Lower, Upper, Both, Operation, Map, Remap, Unmap, Shown, Nothing, Object}
+-- How a request cuts the old mappings (document 01), what it hands the driver for them, what a byte address shows, and
+-- for how many bytes: of any list of mappings.
+use Rattle.model.specs.Prelude.{Bool, false, List, [], _∷_, _++_, map, ℕ, zero, suc, _+_, _-_, min, max, leb, ltb, eqb, ℤ, pos, negsuc, subℕ, Space, Mapping, Request, Rests, Lower, Upper, Both, Operation, Map, Remap, Unmap, Shown, Nothing, Object, Seen}
 use Rattle.model.specs.Rows.{all, choose}
 use Rattle.model.specs.Rules.{end, stop, apart}
 
@@ -117,3 +117,20 @@ insideTests m x = leb (m .address) x ∷ ltb x (end m) ∷ []
 unfoldable pub translate : List Mapping → ℕ → Shown
 translate [] x = Nothing
 translate (m ∷ ms) x = choose (all (insideTests m x)) (Object (m .object) (m .offset + (x - m .address))) (translate ms x)
+
+-- document 02: the address up to which the answer at x goes on: its mapping's end; for nothing the next mapping's
+-- address, or the edge `to` if that is nearer
+abbrev pub nearer : ℕ → ℕ → ℕ → ℕ
+nearer x a b = choose (ltb x a) (min a b) b
+
+unfoldable pub runEnd : ℕ → List Mapping → ℕ → ℕ
+runEnd to [] x = to
+runEnd to (m ∷ ms) x = choose (all (insideTests m x)) (end m) (nearer x (m .address) (runEnd to ms x))
+
+-- the bytes from x up to an address; outside the space none
+abbrev pub bytesTo : Space → ℕ → ℕ → ℕ
+bytesTo s to x = choose (all (leb (s .start) x ∷ ltb x (s .start + s .size) ∷ [])) (to - x) 0
+
+-- what a look-up sees at x
+abbrev pub see : Space → List Mapping → ℕ → Seen
+see s ms x = record { shown = translate ms x; bytes = bytesTo s (runEnd (s .start + s .size) ms x) x }

@@ -1,7 +1,7 @@
 -- The papers' rules in words; their numbers are written out, but for the most mappings of a table. A call gives a
 -- line's answer exactly if its rule is broken and no line's above it.
-use Rattle.model.specs.Prelude.{_≡_, _⊎_, _↔_, List, [], _∷_, flatMap, List·Memᴰ, ℕ, suc, _+_, _*_, _/_, _%_, _^_, _≤_, _<_, pos, _-ℤ_, length, take, Space, Mapping, Request, Shown, Grant}
-use Rattle.model.specs.Calls.{Reply, refused, answered, mostMappings, end, stop, requestOf, recordOf, Table, mappings, badPlace, operations, old, rests, translate, Asking, numbers, bytes, asked, grantOf, bind, lookup, checkRequest, verdictReply, decodedReply, answerReply, foundReply}
+use Rattle.model.specs.Prelude.{_≡_, _⊎_, _↔_, List, [], _∷_, flatMap, List·Memᴰ, ℕ, suc, _+_, _*_, _/_, _%_, _^_, _≤_, _<_, pos, _-ℤ_, length, take, Space, Mapping, Request, Seen, Grant}
+use Rattle.model.specs.Calls.{Reply, refused, answered, mostMappings, end, stop, requestOf, recordOf, Table, mappings, badPlace, operations, old, rests, see, Asking, numbers, bytes, asked, grantOf, bind, lookup, checkRequest, verdictReply, decodedReply, answerReply, foundReply}
 
 infix 40 _∈_ _⊆_
 abbrev pub Each : {A : Type 0} → (A → Type 0) → List A → Type 0
@@ -123,14 +123,14 @@ bindRefusals s t n q =
     (line (refusal 11) (RoomRule (asked q) t)
     (otherwise (answered (grantOf (asked q) (mappings t))))))))
 
-abbrev pub lookupRefusals : Space → Table → ℕ → RefusalTable (Reply Shown)
-lookupRefusals s t x = tableLines s (λ rest. rest) t (otherwise (answered (translate (mappings t) x)))
+abbrev pub lookupRefusals : Space → Table → ℕ → RefusalTable (Reply Seen)
+lookupRefusals s t x = tableLines s (λ rest. rest) t (otherwise (answered (see s (mappings t) x)))
 
 -- an answer is a exactly if the table gives a
 pub record Exactly : Type 0 where
   pub of-check : (bs : List ℕ) (s : Space) (n : ℕ) → (checkRequest bs s ≡ n) ↔ Gives (checkRefusals bs s) n
   pub of-bind : (s : Space) (t : Table) (os : List ℕ) (q : Asking) (a : Reply Grant) → (bind s t os q .answer ≡ a) ↔ Gives (bindRefusals s t (length os) q) a
-  pub of-lookup : (s : Space) (t : Table) (x : ℕ) (a : Reply Shown) → (lookup s t x ≡ a) ↔ Gives (lookupRefusals s t x) a
+  pub of-lookup : (s : Space) (t : Table) (x : ℕ) (a : Reply Seen) → (lookup s t x ≡ a) ↔ Gives (lookupRefusals s t x) a
   -- the place of number 5 is the lowest: the mappings before it keep the rules, and with it no more
   pub lowest : (s : Space) (ms : List Mapping) (p : ℕ) → (TableRules s ms → ⊥) → badPlace s 0 ms ≡ p
       → (p < length ms) × TableRules s (take p ms) × (TableRules s (take (suc p) ms) → ⊥)

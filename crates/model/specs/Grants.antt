@@ -1,6 +1,6 @@
 -- What a grant does: demand 2 in terms of the public calls, and the operations as a driver takes them.
 use Rattle.model.specs.Prelude.{_≡_, _⊎_, _↔_, Bool, Option, none, some, Option·map, Option·bind, List, [], _∷_, _++_, flatMap, ℕ, _+_, _-_, _*_, _≤_, _<_, leb, ltb, eqb, length, getD, drop, replicate, Space, Mapping, Request, Rests, Lower, Upper, Both, Operation, Map, Remap, Unmap, Nothing, Object, Grant}
-use Rattle.model.specs.Calls.{all, choose, answered, end, stop, Table, mappings, operations, restsOf, old, rests, operationWords, translate, Asking, asked, bind, tableAfter, lookup}
+use Rattle.model.specs.Calls.{all, choose, answered, end, stop, Table, mappings, operations, restsOf, old, rests, operationWords, translate, see, Asking, asked, bind, tableAfter, lookup, shownReply}
 use Rattle.model.specs.Layout.{operationIn, listedOperation}
 use Rattle.model.specs.Exactly.{Each, _∈_, ShareByte, Ascends, TableRules, Agree, Pins}
 
@@ -12,18 +12,11 @@ pub record Effect (s : Space) (r : Request) (t u : Table) : Type 0 where
   pub elsewhere : (x : ℕ) → (x < r .address) ⊎ (stop r ≤ x) → translate (mappings u) x ≡ translate (mappings t) x
   pub valid : TableRules s (mappings u)
   pub zeros : (drop (4 * u .count) (u .words) ≡ replicate (length (t .words) - 4 * u .count) 0) × (length (u .words) ≡ length (t .words))
-  pub answers : (x : ℕ) → lookup s u x ≡ answered (translate (mappings u) x)
+  pub answers : (x : ℕ) → lookup s u x ≡ answered (see s (mappings u) x)
 
 abbrev pub Demand2 : Type 0
 Demand2 = (s : Space) (t : Table) (os : List ℕ) (q : Asking) (g : Grant) → bind s t os q .answer ≡ answered g
     → Effect s (asked q) t (tableAfter t (bind s t os q))
-
--- document 01, Look-up: a byte address inside a mapping shows its object at offset + (byte address - mapping address),
--- any other nothing
-abbrev pub Lookup : Type 0
-Lookup = (s : Space) (ms : List Mapping) (x : ℕ) → TableRules s ms
-    → ((m : Mapping) → m ∈ ms → m .address ≤ x → x < end m → translate ms x ≡ Object (m .object) (m .offset + (x - m .address)))
-    × (((m : Mapping) → m ∈ ms → (x < m .address) ⊎ (end m ≤ x)) → translate ms x ≡ Nothing)
 
 abbrev pub equal : Mapping → Mapping → Bool
 equal m n = all (eqb (m .address) (n .address) ∷ eqb (m .size) (n .size) ∷ eqb (m .object) (n .object) ∷ eqb (m .offset) (n .offset) ∷ [])
@@ -106,7 +99,7 @@ Keep = (r : Request) (ms : List Mapping) → Each (Marked r) (operations r ms)
 abbrev pub KeepShows : Type 0
 KeepShows = (s : Space) (t : Table) (os : List ℕ) (q : Asking) (g : Grant) → bind s t os q .answer ≡ answered g
     → Each (λ o. (m : Mapping) → m ∈ old o → (x : ℕ) → m .address ≤ x → x < end m → asked q .address ≤ x → x < stop (asked q)
-    → (keepWord o ≡ 1) ↔ (lookup s (tableAfter t (bind s t os q)) x ≡ lookup s t x))
+    → (keepWord o ≡ 1) ↔ (shownReply (lookup s (tableAfter t (bind s t os q)) x) ≡ shownReply (lookup s t x)))
     (operations (asked q) (mappings t))
 
 -- document 01: an operation is 14 words: kind, keep, the old mapping (a map's new one), the lower rest, the upper rest;

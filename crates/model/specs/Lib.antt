@@ -6,6 +6,7 @@ pub mod Cut
 pub mod Layout
 pub mod Calls
 pub mod Exactly
+pub mod Lookups
 pub mod Grants
 pub mod Demand3
 pub mod Drawings

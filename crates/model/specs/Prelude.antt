@@ -18,4 +18,5 @@ pub use Rattle.model.specs.declared.Operation.{Operation}
 pub use Rattle.model.specs.declared.Operation.the-variants.{Map, Remap, Unmap}
 pub use Rattle.model.specs.declared.Shown.{Shown}
 pub use Rattle.model.specs.declared.Shown.the-variants.{Nothing, Object}
+pub use Rattle.model.specs.declared.Seen.{Seen}
 pub use Rattle.model.specs.declared.Grant.{Grant}

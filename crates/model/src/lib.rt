@@ -90,6 +90,13 @@ pub enum Shown {
     Object(u64, u64),
 }
 
+// What a look-up sees at a byte address: what it shows, and for how many bytes from there on the answer goes on in the same
+// way.
+pub struct Seen {
+    pub shown: Shown,
+    pub bytes: u64,
+}
+
 // What a granted request answers: the number of operations and the new count.
 pub struct Grant {
     pub operations: usize,
@@ -104,6 +111,6 @@ pub enum Answer {
 
 // The answer to a look-up.
 pub enum Found {
-    Shows(Shown),
+    Shows(Seen),
     Refused(Refusal),
 }

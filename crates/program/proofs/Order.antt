@@ -11,7 +11,7 @@ use borrow.Author.Tests.{lt-leb, eqb-true, ne-eqb}
 use Rattle.model.specs.Rows.{Reply}
 use Rattle.model.specs.Calls.{bytes, countAfter, lookup}
 use Rattle.model.proofs.Exactly.{exactly}
-use Rattle.program.specs.Prelude.{Shown, Grant}
+use Rattle.program.specs.Prelude.{Seen, Grant}
 use Rattle.program.specs.Text.{ascii}
 use Rattle.program.specs.Script.{hasMark, recordAt, recordSize, State, granted, shows, refusal, otherMark, cut, toldBy, bindIn, stepOn, step, lines, operationsIn, run, output}
 use Rattle.program.specs.Claims.{Fronts, Takes, InOrder, RunsInOrder, DoesCalls}
@@ -116,7 +116,7 @@ module _ (st : State) (bs : List ℕ) where
     };
   }
 
-  look-does : (x : ℕ) {u : Reply Shown} → lookup (st .space) (st .table) x ≡ u → stepOn (LookUp x) st bs ≡ record { told = toldBy (shows x) u; state = st }
+  look-does : (x : ℕ) {u : Reply Seen} → lookup (st .space) (st .table) x ≡ u → stepOn (LookUp x) st bs ≡ record { told = toldBy (shows x) u; state = st }
   look-does x e = λ i. record { told = toldBy (shows x) (e i); state = st }
 
 pub does-calls : DoesCalls

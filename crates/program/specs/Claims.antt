@@ -4,7 +4,7 @@ use Prim.Native.String.{String}
 use Rattle.model.specs.Prelude.{_≡_, _⊎_, List, [], _∷_, _++_, ℕ, _+_, _*_, _/_, _^_, _<_, length, take, drop, replicate}
 use Rattle.model.specs.Calls.{refused, answered, mappings, operations, byNumbers, bytesOf, requestOf, recordOf, spaceOf, bytes, Outcome, bind, lookup}
 use Rattle.model.specs.Exactly.{Each, _∈_, SpaceRules, Pins}
-use Rattle.program.specs.Prelude.{Space, Request, Shown, Grant}
+use Rattle.program.specs.Prelude.{Space, Request, Seen, Grant}
 use Rattle.program.specs.Text.{ascii, decimal}
 use Rattle.program.specs.Script.{recordAt, requestIn, State, emptied, granted, shows, refusal, step, lines, run, start, output, responseTold}
 use Rattle.program.specs.declared.ScriptRecord.{ScriptRecord}
@@ -86,7 +86,7 @@ pub record Does (st : State) (bs : List ℕ) : Type 0 where
     state = record { space = st .space; table = record { words = bindAt st bs .table; count = g .count }; operations = bindAt st bs .operations };
   }
   pub refuses : (n p : ℕ) → recordAt bs ≡ Bind → bindAt st bs .answer ≡ refused n p → step st bs ≡ record { told = refusal n p; state = st }
-  pub looks : (x : ℕ) (v : Shown) → recordAt bs ≡ LookUp x → lookup (st .space) (st .table) x ≡ answered v
+  pub looks : (x : ℕ) (v : Seen) → recordAt bs ≡ LookUp x → lookup (st .space) (st .table) x ≡ answered v
       → step st bs ≡ record { told = shows x v; state = st }
   pub looks-refused : (x n p : ℕ) → recordAt bs ≡ LookUp x → lookup (st .space) (st .table) x ≡ refused n p
       → step st bs ≡ record { told = refusal n p; state = st }
@@ -130,14 +130,14 @@ workedExample = setSpaceBytes 0 65536 0 0 ++ (numbersBytes 0 7 0 0 12288 ++ (num
 
 unfoldable pub scripts : List (List ℕ × String)
 scripts =
-    (workedExample, "space 256\ngranted 1 1\nmap 0 12288 7 0\ngranted 2 3\nremap 0 12288 7 0 keep 0\nlower 0 4096 7 0\nupper 8192 4096 7 8192\nmap 4096 4096 9 0\nat 8200 7 8200\n")
+    (workedExample, "space 256\ngranted 1 1\nmap 0 12288 7 0\ngranted 2 3\nremap 0 12288 7 0 keep 0\nlower 0 4096 7 0\nupper 8192 4096 7 8192\nmap 4096 4096 9 0\nat 8200 7 8200 4088\n")
     -- nothing; one byte; a mark alone; a record cut by its last byte; another mark
     ∷ ([], "") ∷ (83 ∷ [], "cut 0\n") ∷ (ascii "LK", "cut 0\n") ∷ (lookUpBytes 0 ++ (ascii "LK" ++ bytesOf 7 0), "refused 1\ncut 10\n") ∷ (ascii "sp", "mark 0\n")
     -- a reservation, a request in it, a second space; an unmap of an upper end, an address that shows nothing
     ∷ (setSpaceBytes 4096 65536 8192 4096 ++ (numbersBytes 0 7 8192 0 4096 ++ (setSpaceBytes 1 0 0 0 ++ ascii "XY")), "space 256\nrefused 8\nrefused 1\nmark 110\n")
     ∷ (
       setSpaceBytes 0 65536 0 0 ++ (numbersBytes 0 7 0 0 8192 ++ (numbersBytes 1 0 4096 0 8192 ++ (lookUpBytes 4096 ++ (setSpaceBytes 0 65536 0 0 ++ lookUpBytes 0)))),
-      "space 256\ngranted 1 1\nmap 0 8192 7 0\ngranted 1 1\nremap 0 8192 7 0 keep 0\nlower 0 4096 7 0\nat 4096 none\nspace 256\nat 0 none\n",
+      "space 256\ngranted 1 1\nmap 0 8192 7 0\ngranted 1 1\nremap 0 8192 7 0 keep 0\nlower 0 4096 7 0\nat 4096 none 61440\nspace 256\nat 0 none 65536\n",
     )
     ∷ []
 

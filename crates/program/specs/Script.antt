@@ -1,13 +1,13 @@
 -- The script program (document 01): what stands at a place of a script, what one record does, and all that a script
 -- prints.
 use Rattle.model.specs.Prelude.{Bool, _&&_, List, [], _∷_, _++_, flatMap, ℕ, zero, suc, _+_, _*_, leb, eqb, length, getD, take, drop, replicate}
-use Rattle.program.specs.Prelude.{Space, Operation, Shown, Grant}
+use Rattle.program.specs.Prelude.{Space, Operation, Seen, Grant}
 use Rattle.model.specs.Rows.{choose, Reply, refused, answered, decide}
 use Rattle.model.specs.Rules.{spaceRow}
 use Rattle.model.specs.Table.{Table, capacity, mappings}
 use Rattle.model.specs.Cut.{operations}
 use Rattle.model.specs.Calls.{littleEndian, requestOf, recordBytes, spaceOf, bytes, Outcome, bind, tableAfter, lookup, numbered}
-use Rattle.program.specs.Text.{line, operationLines, shownLine}
+use Rattle.program.specs.Text.{line, operationLines, seenLine}
 use Rattle.program.specs.declared.ScriptRecord.{ScriptRecord}
 use Rattle.program.specs.declared.ScriptRecord.the-variants.{SetSpace, Bind, LookUp, OtherMark, Cut, End}
 use Rattle.program.specs.declared.Response.{Response}
@@ -55,7 +55,7 @@ pub record State : Type 0 where
 pub data Told : Type 0 where
   emptied : ℕ → Told
   granted : Grant → Told
-  shows : ℕ → Shown → Told
+  shows : ℕ → Seen → Told
   refusal : ℕ → ℕ → Told
   otherMark : Told
   cut : Told
@@ -105,7 +105,7 @@ step st bs = stepOn (recordAt bs) st bs
 abbrev pub lines : ℕ → List Operation → Told → List ℕ
 lines p os (emptied n) = line "space" (n ∷ [])
 lines p os (granted g) = line "granted" (g .operations ∷ g .count ∷ []) ++ flatMap operationLines os
-lines p os (shows x v) = shownLine x v
+lines p os (shows x v) = seenLine x v
 lines p os (refusal n q) = line "refused" (n ∷ [])
 lines p os otherMark = line "mark" (p ∷ [])
 lines p os cut = line "cut" (p ∷ [])

@@ -2,7 +2,7 @@
 use Prim.Native.Char.{code}
 use Prim.Native.String.{String, [] as noText, _∷_ as _then_}
 use Rattle.model.specs.Prelude.{Bool, List, [], _∷_, _++_, ℕ, zero, suc, _+_, _/_, _%_, ltb}
-use Rattle.program.specs.Prelude.{Mapping, Rests, Lower, Upper, Both, Operation, Map, Remap, Unmap, Shown, Nothing, Object}
+use Rattle.program.specs.Prelude.{Mapping, Rests, Lower, Upper, Both, Operation, Map, Remap, Unmap, Shown, Nothing, Object, Seen}
 use Rattle.model.specs.Rows.{choose}
 use Rattle.model.specs.Table.{wordsOf}
 
@@ -52,7 +52,10 @@ operationLines (Map m) = mappingLine "map" m
 operationLines (Remap keep m rs) = keepLine "remap" keep m ++ restLines rs
 operationLines (Unmap keep m) = keepLine "unmap" keep m
 
--- an address, and what it shows
-abbrev pub shownLine : ℕ → Shown → List ℕ
-shownLine x Nothing = phrase "at" (x ∷ []) ++ line " none" []
-shownLine x (Object object offset) = line "at" (x ∷ object ∷ offset ∷ [])
+-- an address, what it shows, and for how many bytes (document 02)
+abbrev pub shownLine : ℕ → Shown → ℕ → List ℕ
+shownLine x Nothing n = phrase "at" (x ∷ []) ++ line " none" (n ∷ [])
+shownLine x (Object object offset) n = line "at" (x ∷ object ∷ offset ∷ n ∷ [])
+
+abbrev pub seenLine : ℕ → Seen → List ℕ
+seenLine x v = shownLine x (v .shown) (v .bytes)

@@ -2,7 +2,7 @@
 // in specs/. There is no function. Proofs of the claims are in proofs/.
 use model::Grant;
 use model::Refusal;
-use model::Shown;
+use model::Seen;
 use model::Space;
 
 // What stands at a place of a script (document 01: The script program). A request's 40 bytes are those behind its mark.
@@ -16,11 +16,11 @@ pub enum ScriptRecord {
 }
 
 // What the script program answers to a record: the capacity of the table that a granted `SP` emptied; a grant; an address
-// and what it shows; a refusal; or that the script ends there.
+// and what a look-up sees there; a refusal; or that the script ends there.
 pub enum Response {
     Emptied(usize),
     Granted(Grant),
-    Shows(u64, Shown),
+    Shows(u64, Seen),
     Refused(Refusal),
     OtherMark,
     Cut,

@@ -10,7 +10,7 @@ use lib.Dec.{eqb}
 use lib.ListN.{length, drop, length-drop}
 use lib.Seq.{drop-append-le}
 use Rattle.model.specs.declared.Grant.{Grant}
-use Rattle.model.specs.declared.Shown.{Shown}
+use Rattle.model.specs.declared.Seen.{Seen}
 use Rattle.program.specs.declared.ScriptRecord.{ScriptRecord}
 use Rattle.program.specs.declared.ScriptRecord.the-variants.{SetSpace, Bind, LookUp, OtherMark, Cut, End}
 use Rattle.model.specs.Rows.{choose, Reply, refused, answered}
@@ -77,7 +77,7 @@ module _ (st : State) (bs : List ℕ) where
       go (answered n) k = never (sym k)
   short-on (LookUp x) h = go (lookup (st .space) (st .table) x) h
     where
-      go : (u : Reply Shown) → isShort (toldBy (shows x) u) ≡ true → Short (LookUp x)
+      go : (u : Reply Seen) → isShort (toldBy (shows x) u) ≡ true → Short (LookUp x)
       go (refused n q) k = never (sym k)
       go (answered n) k = never (sym k)
   short-on OtherMark h = never (sym h)

@@ -10,10 +10,11 @@ use lib.ListN.{length, length-append}
 use Rattle.model.specs.declared.Mapping.{Mapping}
 use Rattle.model.specs.declared.Operation.{Operation}
 use Rattle.model.specs.declared.Operation.the-variants.{Map, Remap, Unmap}
+use Rattle.model.specs.declared.Shown.{Shown}
 use Rattle.model.specs.declared.Shown.the-variants.{Nothing, Object}
 use Rattle.model.specs.Rows.{choose}
 use Rattle.model.specs.Table.{wordsOf}
-use Rattle.program.specs.Text.{ascii, keepLine, restLines, operationLines}
+use Rattle.program.specs.Text.{ascii, keepLine, restLines, operationLines, shownLine}
 use Rattle.program.specs.Script.{Told, emptied, granted, shows, refusal, otherMark, cut, ended, lines}
 use Rattle.text.specs.Lines.{phraseOf, lineOf, keepOf}
 
@@ -36,11 +37,14 @@ operation-some (Map m) = line-some (ascii "map") (wordsOf m)
 operation-some (Remap keep m rs) = before-some (keepLine "remap" keep m) (restLines rs) (keep-some (ascii "remap") keep m)
 operation-some (Unmap keep m) = keep-some (ascii "unmap") keep m
 
+shown-some : (x : ℕ) (v : Shown) (n : ℕ) → 1 ≤ length (shownLine x v n)
+shown-some x Nothing n = behind-some (phraseOf (ascii "at") (x ∷ [])) (lineOf (ascii " none") (n ∷ [])) (line-some (ascii " none") (n ∷ []))
+shown-some x (Object object offset) n = line-some (ascii "at") (x ∷ object ∷ offset ∷ n ∷ [])
+
 pub lines-some : (p : ℕ) (t : Told) → (t ≡ ended) ⊎ (1 ≤ length (lines p [] t))
 lines-some p (emptied n) = inr (line-some (ascii "space") (n ∷ []))
 lines-some p (granted g) = inr (before-some (lineOf (ascii "granted") (g .operations ∷ g .count ∷ [])) _ (line-some (ascii "granted") (g .operations ∷ g .count ∷ [])))
-lines-some p (shows x Nothing) = inr (behind-some (phraseOf (ascii "at") (x ∷ [])) (lineOf (ascii " none") []) (line-some (ascii " none") []))
-lines-some p (shows x (Object object offset)) = inr (line-some (ascii "at") (x ∷ object ∷ offset ∷ []))
+lines-some p (shows x v) = inr (shown-some x (v .shown) (v .bytes))
 lines-some p (refusal n q) = inr (line-some (ascii "refused") (n ∷ []))
 lines-some p otherMark = inr (line-some (ascii "mark") (p ∷ []))
 lines-some p cut = inr (line-some (ascii "cut") (p ∷ []))

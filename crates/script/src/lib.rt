@@ -135,7 +135,7 @@ fn look_up(s: Space, table: &[u64], count: usize, x: u64) -> Stepped
     ensures { λ r. ⌜ ((os bs : List ℕ) → Steps (stepOn (LookUp x) (stateOf s (now (table .entry)) count os) bs) 10 r (now (table .entry)) os) ⌝ }
 {
     match bind::lookup(s, table, count, x) {
-        Found::Shows(shown) => Stepped::new(s, count, Response::Shows(x, shown), ADDRESS_RECORD),
+        Found::Shows(seen) => Stepped::new(s, count, Response::Shows(x, seen), ADDRESS_RECORD),
         Found::Refused(w) => Stepped::new(s, count, Response::Refused(w), ADDRESS_RECORD),
     }
 }

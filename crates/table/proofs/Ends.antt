@@ -1,7 +1,6 @@
 -- Mappings in order: the first one that ends behind a byte address, and why no other can have the byte.
 -- Assumes nothing.
 use mathlib.Core.Path.{_≡_, refl, sym, _∙_}
-use mathlib.Core.Logic.{inl}
 use mathlib.Core.Bool.{Bool, true, false}
 use mathlib.Core.List.{List, [], _∷_}
 use Prim.Native.Nat.{ℕ, zero, suc, _≤_, _<_}
@@ -9,13 +8,13 @@ use native.Mathlib.Omega.{arith}
 use lib.ListN.{length, getD, take, drop}
 use borrow.Author.Tests.{le-ltb, ltb-true, ltb-false}
 use Rattle.model.specs.declared.Mapping.{Mapping}
-use Rattle.model.specs.declared.Shown.the-variants.{Nothing}
+use Rattle.model.specs.declared.Space.{Space}
 use Rattle.model.specs.Rows.{choose}
 use Rattle.model.specs.Rules.{end}
-use Rattle.model.specs.Cut.{translate}
+use Rattle.model.specs.Cut.{see}
 use Rattle.model.specs.Exactly.{Each, Ascends}
-use Rattle.model.proofs.Actions.{each-mem, each-map}
-use Rattle.model.proofs.Translate.{translate-past, hides-all}
+use Rattle.model.proofs.Actions.{each-map}
+use Rattle.model.proofs.Lookups.{see-past, see-front}
 use Rattle.table.specs.Places.{firstWhere, endsBehind}
 use Rattle.table.proofs.First.{first-before}
 use Rattle.table.proofs.Places.{each-at}
@@ -47,16 +46,13 @@ module _ (x : ℕ) where
           (h, each-map (λ n. end m ≤ n .address) (λ n. x < end n) ms (λ n l. omega arith) (a .0))
       go false q ih = ih
 
-  none-from : (y : ℕ) (ms : List Mapping) → Each (λ m. y ≤ m .address) ms → x < y → translate ms x ≡ Nothing
-  none-from y ms a h = hides-all ms x (λ m i. inl (omega (arith, each-mem (λ n. y ≤ n .address) ms m a i)))
-
   -- those before the first that ends behind x end too early, and those behind it start too late
-  pub first-shows : (ms : List Mapping) → Ascends ms → translate (take 1 (drop (firstWhere (endsBehind x) ms) ms)) x ≡ translate ms x
-  unfolding firstWhere translate
-  first-shows [] a = refl
-  first-shows (m ∷ ms) a = go (endsBehind x m) refl (first-shows ms (a .1))
+  pub first-sees : (s : Space) (ms : List Mapping) → Ascends ms → see s (take 1 (drop (firstWhere (endsBehind x) ms) ms)) x ≡ see s ms x
+  unfolding firstWhere
+  first-sees s [] a = refl
+  first-sees s (m ∷ ms) a = go (endsBehind x m) refl (first-sees s ms (a .1))
     where
-      go : (b : Bool) → endsBehind x m ≡ b → translate (take 1 (drop (firstWhere (endsBehind x) ms) ms)) x ≡ translate ms x
-          → translate (take 1 (drop (choose b 0 (suc (firstWhere (endsBehind x) ms))) (m ∷ ms))) x ≡ translate (m ∷ ms) x
-      go true q ih = rw (none-from (end m) ms (a .0) (ltb-true x (end m) q))
-      go false q ih = let h = ltb-false x (end m) q in ih ∙ sym (translate-past m ms x (λ i. omega arith))
+      go : (b : Bool) → endsBehind x m ≡ b → see s (take 1 (drop (firstWhere (endsBehind x) ms) ms)) x ≡ see s ms x
+          → see s (take 1 (drop (choose b 0 (suc (firstWhere (endsBehind x) ms))) (m ∷ ms))) x ≡ see s (m ∷ ms) x
+      go true q ih = sym (see-front s m ms x (a .0) (ltb-true x (end m) q))
+      go false q ih = ih ∙ sym (see-past s m ms x (ltb-false x (end m) q))

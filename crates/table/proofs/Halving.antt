@@ -17,7 +17,7 @@ use Rattle.table.specs.declared.Search.{Search}
 use Rattle.table.specs.Places.{firstWhere, endsBehind}
 use Rattle.table.specs.Halving.{digitsIn, binaryDigits, whole, middle, halved, at, step, steps, halving, Finds, Halving}
 use Rattle.table.proofs.First.{first-most, first-least}
-use Rattle.table.proofs.Ends.{ends-ascend, ends-before, ends-behind, first-shows}
+use Rattle.table.proofs.Ends.{ends-ascend, ends-before, ends-behind, first-sees}
 use Rattle.table.proofs.Digits.{digits-less, digits-none}
 
 -- ── worked cases ──
@@ -151,7 +151,7 @@ module _ (ms : List Mapping) (x : ℕ) where
         first = i;
         before = rw i (ends-before ms x);
         behind = rw i (ends-behind x ms a);
-        shows = rw i (first-shows x ms a);
+        sees = λ space. rw i (first-sees x space ms a);
       }
 
   pub finds : Ascends ms → Finds ms x (halving ms x)

@@ -6,16 +6,18 @@ use Prim.Native.Nat.{ℕ, _^_, _≤_, _<_}
 use native.Mathlib.Omega.{arith}
 use lib.ListN.{length, take, drop}
 use Rattle.model.specs.declared.Mapping.{Mapping}
-use Rattle.model.specs.declared.Shown.the-variants.{Nothing}
+use Rattle.model.specs.declared.Space.{Space}
+use Rattle.model.specs.Rules.{end}
 use Rattle.model.specs.Table.{mappingsIn}
-use Rattle.model.specs.Cut.{translate}
+use Rattle.model.specs.Cut.{see}
+use Rattle.model.specs.Exactly.{Each}
 use Rattle.model.proofs.Store.{length-mappings}
 use Rattle.table.specs.declared.Search.{Search}
 use Rattle.table.specs.Places.{mappingAt, firstWhere, endsBehind, Valid}
 use Rattle.table.specs.Halving.{binaryDigits, whole, middle, halved, at, halving, Halvable}
 use Rattle.table.proofs.Places.{at-place, from-place, from-end, valid-ascends, valid-at}
 use Rattle.table.proofs.First.{first-most}
-use Rattle.table.proofs.Ends.{first-shows}
+use Rattle.table.proofs.Ends.{ends-behind, first-sees}
 use Rattle.table.proofs.Digits.{binary-digits}
 use Rattle.table.proofs.Halving.{finds, Left, left-start, left-end, left-some, left-next}
 
@@ -60,12 +62,18 @@ module _ {ws : List ℕ} {n : ℕ} (v : Valid ws n) (x : ℕ) where
   pub place-is : {s : Search} → s ≡ halving ms x → s .lo ≡ first
   place-is e = ap (λ (s : Search). s .lo) e ∙ finds ms x (valid-ascends v) .first
 
-  shows : (i : ℕ) → i ≡ first → translate (take 1 (drop i ms)) x ≡ translate ms x
-  shows i e = rw e (first-shows x ms (valid-ascends v))
+  -- the mapping there ends behind x
+  pub found-ends : {m : Mapping} (i : ℕ) → i ≡ first → i < n → m ≡ mappingAt ws i → x < end m
+  found-ends {m} i e h r =
+      let b : Each (λ k. x < end k) (drop i ms) = rw e (ends-behind x ms (valid-ascends v)) in
+      subst (Each (λ k. x < end k)) (from-place ws n i m h r) b .0
 
-  pub none-shows : {i : ℕ} → i ≡ first → i ≡ n → Nothing ≡ translate ms x
-  unfolding translate
-  none-shows {i} e q = rw (from-end ws n i q) at (shows i e)
+  module _ (s : Space) where
+    sees : (i : ℕ) → i ≡ first → see s (take 1 (drop i ms)) x ≡ see s ms x
+    sees i e = rw e (first-sees x s ms (valid-ascends v))
 
-  pub found-shows : {m : Mapping} (i : ℕ) → i ≡ first → i < n → m ≡ mappingAt ws i → translate (m ∷ []) x ≡ translate ms x
-  found-shows {m} i e h r = rw (from-place ws n i m h r) at (shows i e)
+    pub none-sees : {i : ℕ} → i ≡ first → i ≡ n → see s [] x ≡ see s ms x
+    none-sees {i} e q = ap (λ (ks : List Mapping). see s (take 1 ks) x) (sym (from-end ws n i q)) ∙ sees i e
+
+    pub found-sees : {m : Mapping} (i : ℕ) → i ≡ first → i < n → m ≡ mappingAt ws i → see s (m ∷ []) x ≡ see s ms x
+    found-sees {m} i e h r = rw (from-place ws n i m h r) at (sees i e)

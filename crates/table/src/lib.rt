@@ -1,13 +1,16 @@
 // A table of mappings in lent words, four words each: read, searched, and spliced in place.
 use model::Mapping;
+use model::Seen;
 use model::Shown;
+use model::Space;
 ghost use mathlib.Core.Path.{_≡_};
 ghost use mathlib.Core.List.{[], _∷_, _++_, flatMap};
-ghost use Prim.Native.Nat.{_+_, _*_, _≤_};
+ghost use Prim.Native.Nat.{_+_, _*_, _≤_, _<_};
 ghost use lib.ListN.{length, drop};
-ghost use Rattle.model.specs.Rules.{limit};
+ghost use Rattle.model.specs.Rules.{limit, end};
 ghost use Rattle.model.specs.Table.{mappingFrom, mappingsIn, wordsOf, written};
-ghost use Rattle.model.specs.Cut.{prepend, translate};
+ghost use Rattle.model.specs.Cut.{prepend, translate, runEnd, bytesTo, see};
+ghost use Rattle.model.specs.Lookups.{InSpace};
 ghost use Rattle.words.specs.Words.{stored, cleared};
 ghost use Rattle.table.specs.Halving.{binaryDigits, middle, halved, halving, Halvable};
 ghost use Rattle.table.specs.Places.{mappingAt, firstWhere, startsBehind, endsBehind, Valid};
@@ -140,16 +143,52 @@ fn shown_by(m: Mapping, x: u64) -> Shown
     Shown::Nothing
 }
 
-// What the byte address `x` shows: no mapping but the first that ends behind it can have it.
-pub fn translate(t: &[u64], count: usize, x: u64) -> Shown
-    requires { ⌜ Valid (now t) count ⌝ }
-    ensures { λ r. ⌜ r ≡ translate (mappingsIn count (now (t .entry))) x ⌝ }
+// Where the answer at `x` ends, by one mapping that ends behind it: there, or at its address, or at the edge `to`.
+fn run_end(m: Mapping, to: u64, x: u64) -> u64
+    requires { ⌜ (x < end m) × (end m ≤ limit) ⌝ }
+    ensures { λ e. ⌜ e ≡ runEnd to (m ∷ []) x ⌝ }
 {
+    if m.address <= x {
+        return m.address + m.size;
+    }
+    if m.address < to {
+        return m.address;
+    }
+    to
+}
+
+// The bytes from `x` up to `to`; outside the space none.
+fn bytes_to(s: Space, to: u64, x: u64) -> u64
+    requires { ⌜ (s .start + s .size ≤ limit) × (InSpace s x → x ≤ to) ⌝ }
+    ensures { λ n. ⌜ n ≡ bytesTo s to x ⌝ }
+{
+    if x < s.start {
+        return 0;
+    }
+    if s.start + s.size <= x {
+        return 0;
+    }
+    to - x
+}
+
+// What a look-up sees at the byte address `x`: no mapping but the first that ends behind it can have it or be the next one.
+pub fn see(s: Space, t: &[u64], count: usize, x: u64) -> Seen
+    requires { ⌜ (s .start + s .size ≤ limit) × Valid (now t) count ⌝ }
+    ensures { λ v. ⌜ v ≡ see s (mappingsIn count (now (t .entry))) x ⌝ }
+{
+    let to = s.start + s.size;
     let i = first_ending_behind(t, count, x);
     if i == count {
-        return Shown::Nothing;
+        return Seen {
+            shown: Shown::Nothing,
+            bytes: bytes_to(s, to, x),
+        };
     }
-    shown_by(read_mapping(t, i), x)
+    let m = read_mapping(t, i);
+    Seen {
+        shown: shown_by(m, x),
+        bytes: bytes_to(s, run_end(m, to, x), x),
+    }
 }
 
 // One mapping more behind at most two.

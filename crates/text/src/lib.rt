@@ -132,16 +132,16 @@ pub fn put_operation(out: &mut [u8], at: usize, operation: Operation) -> usize
     }
 }
 
-// The line of an address and what it shows.
-fn put_shown(out: &mut [u8], at: usize, x: u64, shown: Shown) -> usize
+// The line of an address, what it shows, and for how many bytes.
+fn put_shown(out: &mut [u8], at: usize, x: u64, shown: Shown, bytes: u64) -> usize
     requires { ⌜ at + 128 ≤ length (now out) ⌝ }
-    ensures { λ end. ⌜ Put (now (out .entry)) at (shownLine x shown) (now (out .exit)) end 128 ⌝ }
+    ensures { λ end. ⌜ Put (now (out .entry)) at (shownLine x shown bytes) (now (out .exit)) end 128 ⌝ }
 {
     match shown {
-        Shown::Object(object, offset) => put_line(out, at, b"at", &[x, object, offset]),
+        Shown::Object(object, offset) => put_line(out, at, b"at", &[x, object, offset, bytes]),
         Shown::Nothing => {
             let behind = put_phrase(out, at, b"at", &[x]);
-            put_line(out, behind, b" none", &[])
+            put_line(out, behind, b" none", &[bytes])
         }
     }
 }
@@ -156,7 +156,10 @@ pub fn put_response(out: &mut [u8], at: usize, place: u64, response: Response) -
         Response::Granted(g) => {
             put_line(out, at, b"granted", &[g.operations as u64, g.count as u64])
         }
-        Response::Shows(x, shown) => put_shown(out, at, x, shown),
+        Response::Shows(x, seen) => {
+            let shown = seen.shown;
+            put_shown(out, at, x, shown, seen.bytes)
+        }
         Response::Refused(w) => {
             put_line(out, at, b"refused", &[rules::refusal_number(w) as u64])
         }

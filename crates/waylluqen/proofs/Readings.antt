@@ -8,13 +8,14 @@ use native.Mathlib.Omega.{arith}
 use lib.ListN.{length}
 use Rattle.model.specs.declared.Grant.{Grant}
 use Rattle.model.specs.declared.Request.{Request}
+use Rattle.model.specs.declared.Seen.{Seen}
 use Rattle.model.specs.declared.Shown.{Shown}
 use Rattle.model.specs.declared.Shown.the-variants.{Nothing, Object}
 use Rattle.model.specs.declared.Space.{Space}
 use Rattle.model.specs.Rows.{Row, Reply, refused, answered, decide, verdict, numberOf}
 use Rattle.model.specs.Rules.{formRows, requestRows}
 use Rattle.model.specs.Table.{Table, mappings, operationsRow, tableRows}
-use Rattle.model.specs.Cut.{translate}
+use Rattle.model.specs.Cut.{see}
 use Rattle.model.specs.Calls.{Asking, numbers, bytes, asked, requestOf, recordRow, recordRows, roomRow, bindRows, grantOf, bind, lookup, checkRows, checkRequest}
 use Rattle.model.specs.Exactly.{Each}
 use Rattle.model.proofs.Actions.{each-append, each-map}
@@ -23,7 +24,7 @@ use Rattle.model.proofs.Groups.{each-table, each-form, each-request}
 use Rattle.model.proofs.Exactly.{answer-is}
 use Rattle.waylluqen.specs.declared.AnswerWords.{AnswerWords}
 use Rattle.waylluqen.specs.declared.Translation.{Translation}
-use Rattle.waylluqen.specs.Words.{translationOf, answerOf}
+use Rattle.waylluqen.specs.Words.{shownWords, translationOf, answerOf}
 use Rattle.waylluqen.specs.Readings.{BindGives, LookupGives, Readings}
 
 -- ── no row has the number 0 ──
@@ -67,9 +68,9 @@ bind-told a (s, t, os, q, e) =
     let grant = grantOf (asked q) (mappings t) in
     subst Told (sym (answer-is (decide rows grant) (asked q) t os) ∙ e) (told rows grant (bind-numbered s t (length os) q))
 
-lookup-told : (a : Reply Shown) → LookupGives a → Told a
+lookup-told : (a : Reply Seen) → LookupGives a → Told a
 unfolding lookup
-lookup-told a (s, t, x, e) = subst Told e (told (tableRows s [] t) (translate (mappings t) x) (table-numbered s [] t tt))
+lookup-told a (s, t, x, e) = subst Told e (told (tableRows s [] t) (see s (mappings t) x) (table-numbered s [] t tt))
 
 check-told : (bs : List ℕ) (s : Space) → Told (verdict (checkRows bs s))
 unfolding checkRows recordRows
@@ -91,16 +92,31 @@ module _ (count : ℕ) where
   bind-pins (answered g) (refused n p) h k e = absurd (omega (arith, k, ap (λ (w : AnswerWords). w .refusal) e))
   bind-pins (answered g) (answered f) h k e = λ i. answered (grantIn (e i))
 
-lookup-pins : (a b : Reply Shown) → Told a → Told b → translationOf a ≡ translationOf b → a ≡ b
+-- words of what is shown
+shown-zero : (v : Shown) (n : ℕ) → shownWords v n .refusal ≡ 0
+shown-zero Nothing n = refl
+shown-zero (Object o f) n = refl
+
+shown-pins : (v w : Shown) (n m : ℕ) → shownWords v n ≡ shownWords w m → v ≡ w
+shown-pins Nothing Nothing n m e = refl
+shown-pins Nothing (Object o f) n m e = absurd (omega (arith, ap (λ (w : Translation). w .shown) e))
+shown-pins (Object o f) Nothing n m e = absurd (omega (arith, ap (λ (w : Translation). w .shown) e))
+shown-pins (Object o f) (Object p g) n m e = λ i. Object (e i .object) (e i .offset)
+
+bytes-word : (v : Shown) (n : ℕ) → shownWords v n .bytes ≡ n
+bytes-word Nothing n = refl
+bytes-word (Object o f) n = refl
+
+lookup-pins : (a b : Reply Seen) → Told a → Told b → translationOf a ≡ translationOf b → a ≡ b
 lookup-pins (refused n p) (refused m q) h k e = λ i. refused (e i .refusal) (e i .place)
-lookup-pins (refused n p) (answered Nothing) h k e = absurd (omega (arith, h, ap (λ (w : Translation). w .refusal) e))
-lookup-pins (refused n p) (answered (Object o f)) h k e = absurd (omega (arith, h, ap (λ (w : Translation). w .refusal) e))
-lookup-pins (answered Nothing) (refused n p) h k e = absurd (omega (arith, k, ap (λ (w : Translation). w .refusal) e))
-lookup-pins (answered (Object o f)) (refused n p) h k e = absurd (omega (arith, k, ap (λ (w : Translation). w .refusal) e))
-lookup-pins (answered Nothing) (answered Nothing) h k e = refl
-lookup-pins (answered Nothing) (answered (Object o f)) h k e = absurd (omega (arith, ap (λ (w : Translation). w .mapped) e))
-lookup-pins (answered (Object o f)) (answered Nothing) h k e = absurd (omega (arith, ap (λ (w : Translation). w .mapped) e))
-lookup-pins (answered (Object o f)) (answered (Object p g)) h k e = λ i. answered (Object (e i .object) (e i .offset))
+lookup-pins (refused n p) (answered v) h k e =
+    absurd (omega (arith, h, ap (λ (w : Translation). w .refusal) e, shown-zero (v .shown) (v .bytes)))
+lookup-pins (answered v) (refused n p) h k e =
+    absurd (omega (arith, k, ap (λ (w : Translation). w .refusal) e, shown-zero (v .shown) (v .bytes)))
+lookup-pins (answered v) (answered u) h k e =
+    let n : v .bytes ≡ u .bytes = sym (bytes-word (v .shown) (v .bytes)) ∙ ap (λ (w : Translation). w .bytes) e ∙ bytes-word (u .shown) (u .bytes) in
+    let o : v .shown ≡ u .shown = shown-pins (v .shown) (u .shown) (v .bytes) (u .bytes) e in
+    λ i. answered (record { shown = o i; bytes = n i })
 
 pub readings : Readings
 unfolding checkRequest
@@ -116,10 +132,9 @@ readings = record {
     bind-zero count (refused n p) h = (λ z. absurd (omega (arith, h, z)), λ w. absurd (not-both (w .1)))
     bind-zero count (answered g) h = (λ _. (g, refl), λ _. refl)
 
-    lookup-zero : (a : Reply Shown) → Told a → (translationOf a .refusal ≡ 0) ↔ ((v : Shown) × (a ≡ answered v))
+    lookup-zero : (a : Reply Seen) → Told a → (translationOf a .refusal ≡ 0) ↔ ((v : Seen) × (a ≡ answered v))
     lookup-zero (refused n p) h = (λ z. absurd (omega (arith, h, z)), λ w. absurd (not-both (w .1)))
-    lookup-zero (answered Nothing) h = (λ _. (Nothing, refl), λ _. refl)
-    lookup-zero (answered (Object o f)) h = (λ _. (Object o f, refl), λ _. refl)
+    lookup-zero (answered v) h = (λ _. (v, refl), λ _. shown-zero (v .shown) (v .bytes))
 
     check-zero : (u : Reply (Unit {0})) → Told u → (numberOf u ≡ 0) ↔ (u ≡ answered tt)
     check-zero (refused n p) h = (λ z. absurd (omega (arith, h, z)), λ e. absurd (not-both e))

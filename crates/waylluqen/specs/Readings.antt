@@ -6,7 +6,7 @@ use mathlib.Core.Logic.{_↔_}
 use mathlib.Core.List.{List}
 use Prim.Native.Nat.{ℕ}
 use Rattle.model.specs.declared.Grant.{Grant}
-use Rattle.model.specs.declared.Shown.{Shown}
+use Rattle.model.specs.declared.Seen.{Seen}
 use Rattle.model.specs.declared.Space.{Space}
 use Rattle.model.specs.Rows.{Reply, answered, verdict}
 use Rattle.model.specs.Table.{Table}
@@ -17,7 +17,7 @@ use Rattle.waylluqen.specs.Words.{translationOf, answerOf}
 abbrev pub BindGives : Reply Grant → Type 0
 BindGives a = (s : Space) × (t : Table) × (os : List ℕ) × (q : Asking) × (bind s t os q .answer ≡ a)
 
-abbrev pub LookupGives : Reply Shown → Type 0
+abbrev pub LookupGives : Reply Seen → Type 0
 LookupGives a = (s : Space) × (t : Table) × (x : ℕ) × (lookup s t x ≡ a)
 
 -- a reading pins the replies of these
@@ -26,7 +26,7 @@ PinsGiven {A} Gives read = (a b : A) → Gives a → Gives b → read a ≡ read
 
 pub record Readings : Type 0 where
   pub bind-zero : (count : ℕ) (a : Reply Grant) → BindGives a → (answerOf count a .refusal ≡ 0) ↔ ((g : Grant) × (a ≡ answered g))
-  pub lookup-zero : (a : Reply Shown) → LookupGives a → (translationOf a .refusal ≡ 0) ↔ ((v : Shown) × (a ≡ answered v))
+  pub lookup-zero : (a : Reply Seen) → LookupGives a → (translationOf a .refusal ≡ 0) ↔ ((v : Seen) × (a ≡ answered v))
   pub check-zero : (bs : List ℕ) (s : Space) → (checkRequest bs s ≡ 0) ↔ (verdict (checkRows bs s) ≡ answered tt)
   pub bind-pins : (count : ℕ) → PinsGiven BindGives (answerOf count)
   pub lookup-pins : PinsGiven LookupGives translationOf

@@ -5,17 +5,21 @@ use Prim.Native.Nat.{ℕ}
 use Rattle.model.specs.Rows.{Reply, refused, answered}
 use Rattle.model.specs.declared.Shown.{Shown}
 use Rattle.model.specs.declared.Shown.the-variants.{Nothing, Object}
+use Rattle.model.specs.declared.Seen.{Seen}
 use Rattle.model.specs.declared.Grant.{Grant}
 use Rattle.model.specs.Calls.{Outcome}
 use Rattle.waylluqen.specs.declared.Translation.{Translation}
 use Rattle.waylluqen.specs.declared.AnswerWords.{AnswerWords}
 
--- a look-up: the refusal and its place; else whether the address is mapped, its object and offset. What does not apply
--- is 0
-abbrev pub translationOf : Reply Shown → Translation
-translationOf (refused n p) = record { refusal = n; place = p; mapped = 0; object = 0; offset = 0 }
-translationOf (answered Nothing) = record { refusal = 0; place = 0; mapped = 0; object = 0; offset = 0 }
-translationOf (answered (Object o f)) = record { refusal = 0; place = 0; mapped = 1; object = o; offset = f }
+-- a look-up: the refusal and its place; else 0 where nothing is shown, 1 for an object and its offset, and for how many
+-- bytes. What does not apply is 0
+abbrev pub shownWords : Shown → ℕ → Translation
+shownWords Nothing n = record { refusal = 0; place = 0; shown = 0; object = 0; offset = 0; bytes = n }
+shownWords (Object o f) n = record { refusal = 0; place = 0; shown = 1; object = o; offset = f; bytes = n }
+
+abbrev pub translationOf : Reply Seen → Translation
+translationOf (refused n p) = record { refusal = n; place = p; shown = 0; object = 0; offset = 0; bytes = 0 }
+translationOf (answered v) = shownWords (v .shown) (v .bytes)
 
 -- a map or unmap on a table of so many mappings: the refusal and its place, no operation and the same count; else a
 -- grant's two numbers

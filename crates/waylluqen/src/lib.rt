@@ -14,7 +14,7 @@ ghost use mathlib.Core.List.{_∷_};
 ghost use Rattle.model.specs.Rows.{verdict};
 ghost use Rattle.model.specs.Rules.{spaceRow, requestRows};
 ghost use Rattle.model.specs.Calls.{numberOf, verdictReply, answerReply, foundReply, spaceOf, bytes, checkRequest, bind, lookup};
-ghost use Rattle.waylluqen.specs.Words.{translationOf, answerOf, left};
+ghost use Rattle.waylluqen.specs.Words.{shownWords, translationOf, answerOf, left};
 ghost use Rattle.bind.specs.Bound.{numbersOf};
 ghost use Rattle.table.specs.Places.{lent};
 
@@ -27,14 +27,16 @@ pub struct SpaceWords {
     pub reserved_size: u64,
 }
 
-// What a look-up answers C. Refusal 0: it is answered, and `mapped` is 1 where the address shows an object, else 0.
+// What a look-up answers C. Refusal 0: it is answered, `shown` is 1 where the address shows an object, else 0, and `bytes` is for
+// how many bytes from there on that goes on in the same way.
 #[repr(C)]
 pub struct Translation {
     pub refusal: u64,
     pub place: u64,
-    pub mapped: u64,
+    pub shown: u64,
     pub object: u64,
     pub offset: u64,
+    pub bytes: u64,
 }
 
 // What a map or unmap answers C. Refusal 0: granted. On a refusal there is no operation, and the count is the one that came in.
@@ -98,6 +100,30 @@ pub extern "C" fn waylluqen_check_request(
     }
 }
 
+// What a byte address shows, and for how many bytes, in words.
+fn shown_words(shown: Shown, bytes: u64) -> Translation
+    ensures { λ r. ⌜ r ≡ shownWords shown bytes ⌝ }
+{
+    match shown {
+        Shown::Nothing => Translation {
+            refusal: 0,
+            place: 0,
+            shown: 0,
+            object: 0,
+            offset: 0,
+            bytes: bytes,
+        },
+        Shown::Object(object, offset) => Translation {
+            refusal: 0,
+            place: 0,
+            shown: 1,
+            object: object,
+            offset: offset,
+            bytes: bytes,
+        },
+    }
+}
+
 // A look-up's answer in words.
 fn found_words(f: Found) -> Translation
     ensures { λ r. ⌜ r ≡ translationOf (foundReply f) ⌝ }
@@ -106,30 +132,19 @@ fn found_words(f: Found) -> Translation
         Found::Refused(w) => Translation {
             refusal: rules::refusal_number(w) as u64,
             place: rules::refusal_place(w) as u64,
-            mapped: 0,
+            shown: 0,
             object: 0,
             offset: 0,
+            bytes: 0,
         },
-        Found::Shows(shown) => match shown {
-            Shown::Nothing => Translation {
-                refusal: 0,
-                place: 0,
-                mapped: 0,
-                object: 0,
-                offset: 0,
-            },
-            Shown::Object(object, offset) => Translation {
-                refusal: 0,
-                place: 0,
-                mapped: 1,
-                object: object,
-                offset: offset,
-            },
-        },
+        Found::Shows(seen) => {
+            let shown = seen.shown;
+            shown_words(shown, seen.bytes)
+        }
     }
 }
 
-// What a byte address shows in a table of `count` mappings, or the first of the refusals 1, 2, 4 and 5.
+// What a byte address shows in a table of `count` mappings, and for how many bytes, or the first of the refusals 1, 2, 4 and 5.
 #[no_mangle]
 pub extern "C" fn waylluqen_lookup(
     space: SpaceWords,
@@ -218,8 +233,8 @@ pub extern "C" fn waylluqen_bind_record(
 // The interface's number is in the name: header and ffi.rs need this very symbol, so that they link with no other edition of
 // the calls above. CONTRIBUTING.md says when it goes up.
 #[no_mangle]
-pub extern "C" fn waylluqen_interface_3() -> u32
-    ensures { λ n. ⌜ n ≡ 3 ⌝ }
+pub extern "C" fn waylluqen_interface_4() -> u32
+    ensures { λ n. ⌜ n ≡ 4 ⌝ }
 {
-    3
+    4
 }

@@ -18,8 +18,8 @@ enum-known-w c = search needs
 enum-told : tie.Need-enum-told
 enum-told c = search needs
 
-translate-requires : tie.Need-translate-requires
-translate-requires c κs =
+see-requires : tie.Need-see-requires
+see-requires c κs =
     let checked = c .before .before in
     let a = checked .before .before .args in
     valid (a .s) (lent (a .table .now) (a .count)) (sym (ap verdictReply (c .enum-told .given .1)) ∙ checked .lookup-verdict .ensures)
@@ -35,9 +35,9 @@ returns-2 c =
     let checked = c .before .before .before in
     let a = checked .before .before .args in
     lookup-by (a .s) (lent (a .table .now) (a .count)) (a .x) (sym (ap verdictReply (c .before .enum-told .given .1)) ∙ checked .lookup-verdict .ensures)
-    (c .translate .ensures)
+    (c .see .ensures)
 
 pub lookup-spec : {M : Type 1} → statement M
 lookup-spec =
     tie.close
-    (tie.spec lookup-verdict-requires enum-known-w enum-told translate-requires returns returns-2)
+    (tie.spec lookup-verdict-requires enum-known-w enum-told see-requires returns returns-2)

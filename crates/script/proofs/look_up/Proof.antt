@@ -9,8 +9,8 @@ use Rattle.script.proofs.look_up.Tie as tie
 lookup-requires : tie.Need-lookup-requires
 lookup-requires c κs = search needs
 
-enum-known-shown : tie.Need-enum-known-shown
-enum-known-shown c = search needs
+enum-known-seen : tie.Need-enum-known-seen
+enum-known-seen c = search needs
 
 new-requires : tie.Need-new-requires
 new-requires c κs = search needs
@@ -26,7 +26,7 @@ returns c =
     let l = c .before .before .before .before in
     let a = l .before .before .args in
     λ os bs. rw (c .new .ensures) (record {
-      leaves = lookup-answered (a .s) (a .table .now) (a .count) os bs (a .x) (l .lookup .ensures) (c .before .before .shown .given .1);
+      leaves = lookup-answered (a .s) (a .table .now) (a .count) os bs (a .x) (l .lookup .ensures) (c .before .before .seen .given .1);
       takes = refl;
     })
 
@@ -44,7 +44,7 @@ look-up-spec =
     tie.close
     (tie.spec
     lookup-requires
-    enum-known-shown
+    enum-known-seen
     new-requires
     enum-known-w
     new-requires-2

@@ -47,8 +47,8 @@ slice-aggregate-put-line-5 c = search needs
 refusal-number-requires : tie.Need-refusal-number-requires
 refusal-number-requires c κs = search needs
 
-cast-t41 : tie.Need-cast-t41
-cast-t41 c = search needs
+cast-t42 : tie.Need-cast-t42
+cast-t42 c = search needs
 
 slice-aggregate-put-line-6 : tie.Need-slice-aggregate-put-line-6
 slice-aggregate-put-line-6 c = search needs
@@ -157,7 +157,7 @@ put-response-spec =
     enum-known-response-4
     slice-aggregate-put-line-5
     refusal-number-requires
-    cast-t41
+    cast-t42
     slice-aggregate-put-line-6
     put-line-requires-3
     enum-told

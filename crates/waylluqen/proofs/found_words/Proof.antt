@@ -10,8 +10,8 @@ enum-known-f c = search needs
 refusal-number-requires : tie.Need-refusal-number-requires
 refusal-number-requires c κs = search needs
 
-cast-t8 : tie.Need-cast-t8
-cast-t8 c = search needs
+cast-t7 : tie.Need-cast-t7
+cast-t7 c = search needs
 
 refusal-place-requires : tie.Need-refusal-place-requires
 refusal-place-requires c κs = search needs
@@ -19,20 +19,14 @@ refusal-place-requires c κs = search needs
 enum-known-f-2 : tie.Need-enum-known-f-2
 enum-known-f-2 c = search needs
 
-enum-told : tie.Need-enum-told
-enum-told c = search needs
-
-enum-known-shown : tie.Need-enum-known-shown
-enum-known-shown c = search needs
+shown-words-requires : tie.Need-shown-words-requires
+shown-words-requires c κs = search needs
 
 returns : tie.Need-returns
 returns c = rw (c .before .refusal-number .ensures, c .refusal-place .ensures, c .before .before .before .f .given .1)
 
 returns-2 : tie.Need-returns-2
-returns-2 c = rw (c .before .before .before .f2 .given .1, c .enum-told .given .1)
-
-returns-3 : tie.Need-returns-3
-returns-3 c = rw (c .before .before .before .before .f2 .given .1, c .before .shown .given .1)
+returns-2 c = rw (c .shown-words .ensures, c .before .before .f2 .given .1)
 
 pub found-words-spec : {M : Type 1} → statement M
 found-words-spec =
@@ -40,11 +34,9 @@ found-words-spec =
     (tie.spec
     enum-known-f
     refusal-number-requires
-    cast-t8
+    cast-t7
     refusal-place-requires
     enum-known-f-2
-    enum-told
-    enum-known-shown
+    shown-words-requires
     returns
-    returns-2
-    returns-3)
+    returns-2)

@@ -1,0 +1,76 @@
+-- What a look-up tells of a byte address, what a driver uses that for, and a walk over a space from one answer's end to
+-- the next.
+use Rattle.model.specs.Prelude.{_≡_, _⊎_, List, [], _∷_, _++_, ℕ, zero, suc, _+_, _-_, _*_, _≤_, _<_, length, Space, Mapping, Shown, Nothing, Object, Seen}
+use Rattle.model.specs.Calls.{answered, end, Table, mappings, see, lookup}
+use Rattle.model.specs.Exactly.{_∈_, TableRules}
+
+-- the mapping has the byte address x; none of the mappings has it
+abbrev pub Has : Mapping → ℕ → Type 0
+Has m x = (m .address ≤ x) × (x < end m)
+
+abbrev pub Free : List Mapping → ℕ → Type 0
+Free ms x = (m : Mapping) → m ∈ ms → Has m x → ⊥
+
+-- m is the next mapping behind x
+pub record Next (ms : List Mapping) (x : ℕ) (m : Mapping) : Type 0 where
+  pub member : m ∈ ms
+  pub behind : x < m .address
+  pub nearest : (n : Mapping) → n ∈ ms → x < n .address → m .address ≤ n .address
+
+abbrev pub InSpace : Space → ℕ → Type 0
+InSpace s x = (s .start ≤ x) × (x < s .start + s .size)
+
+-- v is what the mappings show at x and how far, case by case
+pub record Tells (s : Space) (ms : List Mapping) (x : ℕ) (v : Seen) : Type 0 where
+  -- document 01, Look-up: inside a mapping, its object at offset + (byte address - mapping address); document 02: to the
+  -- mapping's end
+  pub mapped : (m : Mapping) → m ∈ ms → Has m x
+      → v ≡ record { shown = Object (m .object) (m .offset + (x - m .address)); bytes = end m - x }
+  -- nothing: to the next mapping's address; to the space's end, if there is none
+  pub before-next : InSpace s x → Free ms x → (m : Mapping) → Next ms x m → v ≡ record { shown = Nothing; bytes = m .address - x }
+  pub behind-all : InSpace s x → ((m : Mapping) → m ∈ ms → end m ≤ x) → v ≡ record { shown = Nothing; bytes = s .start + s .size - x }
+  pub outside : (InSpace s x → ⊥) → v ≡ record { shown = Nothing; bytes = 0 }
+
+-- what the byte address y bytes on shows, where the answer goes on in the same way
+abbrev pub along : ℕ → Shown → Shown
+along y Nothing = Nothing
+along y (Object o f) = Object o (f + y)
+
+-- the mapping has one of two bytes and not the other
+abbrev pub Parts : Mapping → ℕ → ℕ → Type 0
+Parts m x y = (Has m x × (Has m y → ⊥)) ⊎ ((Has m x → ⊥) × Has m y)
+
+-- what a driver uses v for, which a look-up answered at x
+pub record GoesOn (s : Space) (t : Table) (x : ℕ) (v : Seen) : Type 0 where
+  -- each byte within the distance shows the same object with its offset moved along, or nothing, for the rest of it
+  pub same : (y : ℕ) → y < v .bytes → lookup s t (x + y) ≡ answered (record { shown = along y (v .shown); bytes = v .bytes - y })
+  -- inside the space it is at least 1, and does not pass the space's end
+  pub some : InSpace s x → (1 ≤ v .bytes) × (x + v .bytes ≤ s .start + s .size)
+  -- the first byte behind is the space's end, or some mapping has one of the two bytes and not the other: it is another
+  -- mapping's, or no mapping's where x is one's
+  pub stops : InSpace s x → (x + v .bytes ≡ s .start + s .size) ⊎ ((m : Mapping) × m ∈ mappings t × Parts m x (x + v .bytes))
+
+abbrev pub Lookup : Type 0
+Lookup = (s : Space) (t : Table) (x : ℕ) (v : Seen) → lookup s t x ≡ answered v → Tells s (mappings t) x v × GoesOn s t x v
+
+-- ── a walk ──
+
+-- n bytes from x on that are answered alike, as a mapping; nothing is none
+abbrev pub shownRun : ℕ → Shown → ℕ → List Mapping
+shownRun x Nothing n = []
+shownRun x (Object o f) n = record { address = x; size = n; object = o; offset = f } ∷ []
+
+-- n look-ups from x on, each where the answer before it ends: the mappings seen, and the address they come to
+unfoldable pub walk : ℕ → Space → List Mapping → ℕ → List Mapping
+walk zero s ms x = []
+walk (suc n) s ms x = shownRun x (see s ms x .shown) (see s ms x .bytes) ++ walk n s ms (x + see s ms x .bytes)
+
+unfoldable pub walkEnd : ℕ → Space → List Mapping → ℕ → ℕ
+walkEnd zero s ms x = x
+walkEnd (suc n) s ms x = walkEnd n s ms (x + see s ms x .bytes)
+
+-- over the space it sees every mapping once, whole and in order, and comes to the space's end: no more look-ups than
+-- twice the mappings and one
+abbrev pub Walk : Type 0
+Walk = (s : Space) (ms : List Mapping) (n : ℕ) → TableRules s ms → 2 * length ms + 1 ≤ n
+    → (walk n s ms (s .start) ≡ ms) × (walkEnd n s ms (s .start) ≡ s .start + s .size)
