@@ -91,7 +91,7 @@ module _ (s : Space) (m : Mapping) (ms : List Mapping) (x : ℕ) where
           (ap (λ (e : ℕ). bytesTo s e x) (runEnd-here (top s) m ms x (l, h) ∙ sym (runEnd-here (top s) m [] x (l, h))))
       go (inr l) =
           let e : runEnd (top s) (m ∷ ms) x ≡ runEnd (top s) (m ∷ []) x =
-              omega (arith, runEnd-before (top s) m ms x l, runEnd-before (top s) m [] x l, runEnd-none (top s) x, runEnd-behind (top s) (end m) x ms h a) in
+          omega (arith, runEnd-before (top s) m ms x l, runEnd-before (top s) m [] x l, runEnd-none (top s) x, runEnd-behind (top s) (end m) x ms h a) in
           ap₂ shows (translate-past m ms x (λ i. omega arith) ∙ hides-all ms x free ∙ sym (translate-past m [] x (λ i. omega arith) ∙ hides-all [] x (λ n i. absurd (List·Memᴰ·not-nil i))))
           (ap (λ (e : ℕ). bytesTo s e x) e)
 
@@ -170,7 +170,7 @@ module _ (s : Space) (from : ℕ) (m : Mapping) (ms : List Mapping) (x : ℕ) (c
   see-before =
       let a = each (λ n. m .address ≤ n .address) ms (λ n k. omega (arith, starts n k)) in
       let e : runEnd (top s) (m ∷ ms) x ≡ m .address =
-          omega (arith, runEnd-before (top s) m ms x h, runEnd-behind (top s) (m .address) x ms h a, c .0 .high) in
+      omega (arith, runEnd-before (top s) m ms x h, runEnd-behind (top s) (m .address) x ms h a, c .0 .high) in
       ap₂ shows (hides-all (m ∷ ms) x free-before) (bytes-inside s x i (runEnd (top s) (m ∷ ms) x) ∙ ap (λ (e : ℕ). e - x) e)
 
 sees : (s : Space) (from : ℕ) (ms : List Mapping) (x : ℕ) → Chain s from (top s) ms → InSpace s x → Sight s ms x (see s ms x)

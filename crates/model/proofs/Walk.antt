@@ -41,8 +41,7 @@ unfolding walk walkEnd
 walk-past zero s m ms x h = (refl, refl)
 walk-past (suc n) s m ms x h =
     let e = see-past s m ms x h in
-    let ih = walk-past n s m ms (x + see s ms x .bytes) (omega arith) in
-    (
+    let ih = walk-past n s m ms (x + see s ms x .bytes) (omega arith) in (
       walk-on s (m ∷ ms) x e n ∙ ap (_++_ (shownRun x (see s ms x .shown) (see s ms x .bytes))) (ih .0),
       end-on s (m ∷ ms) x e n ∙ ih .1,
     )

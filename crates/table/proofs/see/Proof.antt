@@ -46,8 +46,7 @@ run-end-requires c κs =
     let read = c .before in
     let found = read .before .before in
     let start = found .before .before .before in
-    let p = first-place (start .pre .1) (start .args .x) in
-    (
+    let p = first-place (start .pre .1) (start .args .x) in (
       found-ends (start .pre .1) (start .args .x) _ (found .first-ending-behind .ensures) (omega arith) (read .read-mapping .ensures),
       valid-at (start .pre .1) _ (omega arith) (read .read-mapping .ensures) .0,
     )
