@@ -2,17 +2,15 @@
 -- Assumes nothing.
 use mathlib.Core.Path.{_≡_, refl, sym, ap, ap₂, subst, _∙_}
 use mathlib.Core.Logic.{_⊎_, inl, inr}
-use mathlib.Core.Bool.{Bool}
 use mathlib.Core.List.{List, [], _∷_, List·Memᴰ·head, List·Memᴰ·tail, List·Memᴰ·not-nil}
 use Prim.Native.Nat.{ℕ, _+_, _-_, _≤_, _<_, min}
 use native.Mathlib.Omega.{arith}
-use lib.Dec.{leb, ltb}
 use borrow.Author.Tests.{lt-ltb, le-ltb}
 use Rattle.model.specs.Prelude.{Space, Mapping, Shown, Nothing, Object, Seen}
-use Rattle.model.specs.Rows.{choose, answered}
+use Rattle.model.specs.Rows.{answered}
 use Rattle.model.specs.Rules.{end}
 use Rattle.model.specs.Table.{Table, mappings, tableRows}
-use Rattle.model.specs.Cut.{insideTests, translate, nearer, runEnd, bytesTo, see}
+use Rattle.model.specs.Cut.{insideTests, translate, runEnd, inSpaceTests, bytesTo, see}
 use Rattle.model.specs.Calls.{lookup}
 use Rattle.model.specs.Exactly.{_∈_, Each, Ascends, MappingRules, TableRules}
 use Rattle.model.specs.Lookups.{Has, Free, Next, InSpace, Tells, along, Parts, GoesOn, Lookup}
@@ -63,10 +61,10 @@ runEnd-behind to a x (m ∷ ms) h k =
 
 module _ (s : Space) (x : ℕ) where
   pub bytes-inside : InSpace s x → (to : ℕ) → bytesTo s to x ≡ to - x
-  bytes-inside i to = ap (λ (b : Bool). choose b (to - x) 0) (all-true (leb (s .start) x ∷ ltb x (top s) ∷ []) (omega tests))
+  bytes-inside i to = rw (all-true (inSpaceTests s x) (omega tests))
 
   pub bytes-outside : (InSpace s x → ⊥) → (to : ℕ) → bytesTo s to x ≡ 0
-  bytes-outside n to = ap (λ (b : Bool). choose b (to - x) 0) (all-false (leb (s .start) x ∷ ltb x (top s) ∷ []) (λ t. n (omega tests)))
+  bytes-outside n to = rw (all-false (inSpaceTests s x) (λ t. n (omega tests)))
 
 abbrev shows : Shown → ℕ → Seen
 shows v n = record { shown = v; bytes = n }

@@ -128,8 +128,11 @@ runEnd to [] x = to
 runEnd to (m ∷ ms) x = choose (all (insideTests m x)) (end m) (nearer x (m .address) (runEnd to ms x))
 
 -- the bytes from x up to an address; outside the space none
+abbrev pub inSpaceTests : Space → ℕ → List Bool
+inSpaceTests s x = leb (s .start) x ∷ ltb x (s .start + s .size) ∷ []
+
 abbrev pub bytesTo : Space → ℕ → ℕ → ℕ
-bytesTo s to x = choose (all (leb (s .start) x ∷ ltb x (s .start + s .size) ∷ [])) (to - x) 0
+bytesTo s to x = choose (all (inSpaceTests s x)) (to - x) 0
 
 -- what a look-up sees at x
 abbrev pub see : Space → List Mapping → ℕ → Seen
