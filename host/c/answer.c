@@ -3,7 +3,7 @@
  * touched, and writes what they answer and leave to standard output. host/soak compares that.
  *
  * A call comes as a struct call, then its table's words unless it goes on with the last table,
- * its operation words, and its record's bytes. It leaves five words of answer, then the table's
+ * its operation words, and its record's bytes. It leaves six words of answer, then the table's
  * words and the operation words. Words are as the machine has them.
  */
 #define _DEFAULT_SOURCE /* for MAP_ANONYMOUS */
@@ -20,7 +20,7 @@ enum { BIND, BIND_RECORD, LOOKUP, CHECK_REQUEST };
 /* What is lent at the back of its memory; the rest at the front. */
 enum { TABLE_AT_BACK = 1, OPERATIONS_AT_BACK = 2, RECORD_AT_BACK = 4 };
 
-#define ANSWER_WORDS 5
+#define ANSWER_WORDS 6
 
 struct call {
     uint64_t what;
@@ -36,6 +36,7 @@ struct call {
 };
 
 _Static_assert(sizeof(struct call) == 17 * sizeof(uint64_t), "17 words, without a gap");
+_Static_assert(sizeof(waylluqen_translation) == ANSWER_WORDS * sizeof(uint64_t), "the longest");
 
 /* Memories to lend from: a small one takes less time to fill and to look through. The last but one
  * has room for a table that is somewhat too long, the last for the operation words of such a one. */

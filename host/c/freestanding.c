@@ -39,7 +39,7 @@ int run(void)
     const waylluqen_request map = {WAYLLUQEN_OP_MAP, 0x100000, 0x3000, 7, 0};
     uint8_t hole[WAYLLUQEN_RECORD_BYTES] = {WAYLLUQEN_OP_UNMAP};
     waylluqen_answer answer;
-    waylluqen_translation shown;
+    waylluqen_translation seen;
 
     answer = waylluqen_bind(space, table, table_words, 0, operations, operation_words, map);
     if (answer.refusal != WAYLLUQEN_OK || answer.operations != 1 || answer.count != 1) {
@@ -60,6 +60,15 @@ int run(void)
         return __LINE__;
     }
 
-    shown = waylluqen_lookup(space, table, table_words, answer.count, 0x102008);
-    return shown.mapped == 1 && shown.object == 7 && shown.offset == 0x2008 ? 0 : __LINE__;
+    /* In the hole, up to what is left behind it; and in that, up to its end. */
+    seen = waylluqen_lookup(space, table, table_words, answer.count, 0x101ff8);
+    if (seen.refusal != WAYLLUQEN_OK || seen.shown != WAYLLUQEN_SHOWN_NOTHING || seen.bytes != 8) {
+        return __LINE__;
+    }
+    seen = waylluqen_lookup(space, table, table_words, answer.count, 0x102008);
+    if (seen.refusal != WAYLLUQEN_OK || seen.shown != WAYLLUQEN_SHOWN_OBJECT || seen.object != 7 ||
+        seen.offset != 0x2008 || seen.bytes != 0xff8) {
+        return __LINE__;
+    }
+    return 0;
 }

@@ -36,6 +36,9 @@ SAME(WAYLLUQEN_KIND_MAP, 0);
 SAME(WAYLLUQEN_KIND_REMAP, 1);
 SAME(WAYLLUQEN_KIND_UNMAP, 2);
 
+SAME(WAYLLUQEN_SHOWN_NOTHING, 0);
+SAME(WAYLLUQEN_SHOWN_OBJECT, 1);
+
 /* The words of a mapping and of an operation, one behind the other. */
 SAME(WAYLLUQEN_MAPPING_ADDRESS, 0);
 SAME(WAYLLUQEN_MAPPING_SIZE, 1);
@@ -87,9 +90,10 @@ AT(waylluqen_answer, place, 1);
 AT(waylluqen_answer, operations, 2);
 AT(waylluqen_answer, count, 3);
 
-LONG(waylluqen_translation, 5);
+LONG(waylluqen_translation, 6);
 AT(waylluqen_translation, refusal, 0);
 AT(waylluqen_translation, place, 1);
-AT(waylluqen_translation, mapped, 2);
+AT(waylluqen_translation, shown, 2);
 AT(waylluqen_translation, object, 3);
 AT(waylluqen_translation, offset, 4);
+AT(waylluqen_translation, bytes, 5);

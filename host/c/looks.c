@@ -36,9 +36,9 @@ int main(int argc, char **argv)
 
     for (size_t i = 0; i <= 2 * count; i += step) {
         marks[0] = i;
-        waylluqen_translation shown = waylluqen_lookup(space, table, sizeof table / sizeof *table, count, i * page);
+        waylluqen_translation seen = waylluqen_lookup(space, table, sizeof table / sizeof *table, count, i * page);
         marks[1] = i;
-        if (shown.refusal != WAYLLUQEN_OK)
+        if (seen.refusal != WAYLLUQEN_OK)
             return 1;
     }
     return 0;

@@ -11,7 +11,7 @@
 /* The most mappings that a case writes out. */
 #define MOST_WRITTEN 5
 
-_Static_assert(sizeof(waylluqen_translation) == 40, "five words, without a gap");
+_Static_assert(sizeof(waylluqen_translation) == 48, "six words, without a gap");
 
 /* Table, count and address of a look-up in a space, and the answer. */
 struct test_case {
@@ -24,10 +24,12 @@ struct test_case {
     struct mapping table[MOST_WRITTEN];
 };
 
-#define SHOWS(object, offset) {0, 0, 1, object, offset}
-#define NOTHING {0, 0, 0, 0, 0}
-#define REFUSED(number) {number, 0, 0, 0, 0}
-#define BAD_PLACE(place) {WAYLLUQEN_REFUSED_BAD_MAPPING, place, 0, 0, 0}
+/* What an address shows, and for how many bytes. */
+#define SHOWS(object, offset, bytes) {0, 0, WAYLLUQEN_SHOWN_OBJECT, object, offset, bytes}
+#define NOTHING(bytes) {0, 0, WAYLLUQEN_SHOWN_NOTHING, 0, 0, bytes}
+#define OUTSIDE NOTHING(0)
+#define REFUSED(number) {number, 0, 0, 0, 0, 0}
+#define BAD_PLACE(place) {WAYLLUQEN_REFUSED_BAD_MAPPING, place, 0, 0, 0, 0}
 
 /* A table that is full of n mappings. */
 #define FULL(n) n, (n) * MAPPING_WORDS
@@ -37,43 +39,127 @@ struct test_case {
     {name, expected, COMMON, address, FULL(1), {{address, size, object, offset}}}
 #define PAIR(name, expected, address, size, address2, size2) \
     {name, expected, COMMON, 0x100000, FULL(2), {{address, size, 7, 0}, {address2, size2, 7, 0}}}
+/* One mapping that is all of the common space, where nothing is reserved. */
+#define WHOLE {0x100000, 0x100000, 7, 0}
+/* In the common space: two that touch and agree in object and displacement; two with the
+ * reservation between them and room on each side of it. */
+#define AGREEING(name, expected, address) \
+    {name, expected, COMMON, address, FULL(2), {FIRST, {0x102000, 0x1000, 7, 0x5000}}}
+#define APART(name, expected, address) \
+    {name, expected, COMMON, address, FULL(2), \
+     {{0x110000, 0x1000, 7, 0}, {0x1c0000, 0x1000, 8, 0}}}
+/* No mapping, though words behind the count look like some. */
+#define EMPTY(name, expected, space, address) {name, expected, space, address, 0, 20, FIVE}
 /* Five of which some are replaced. */
 #define OF_FIVE(name, expected, ...) {name, expected, COMMON, 0x100000, FULL(5), {__VA_ARGS__}}
 /* A space, with the five mappings, all of which are in the common one. */
 #define IN_SPACE(name, expected, ...) {name, expected, __VA_ARGS__, 0x100000, FULL(5), FIVE}
 
 static const struct test_case cases[] = {
-    /* Bytes of a mapping. */
-    IN_FIVE("first byte", SHOWS(7, 0x3000), 0x100000),
-    IN_FIVE("second byte", SHOWS(7, 0x3001), 0x100001),
-    IN_FIVE("second page", SHOWS(7, 0x4000), 0x101000),
-    IN_FIVE("last byte, a neighbour touches", SHOWS(7, 0x4fff), 0x101fff),
-    IN_FIVE("first byte of the neighbour", SHOWS(8, 0), 0x102000),
-    IN_FIVE("last byte before a gap", SHOWS(8, 0xfff), 0x102fff),
-    IN_FIVE("first byte of a gap", NOTHING, 0x103000),
-    IN_FIVE("last byte of a gap", NOTHING, 0x13efff),
-    IN_FIVE("behind a gap", SHOWS(HIGHEST_OBJECT, 0x1000), 0x13f000),
-    IN_FIVE("last byte before the reservation", SHOWS(HIGHEST_OBJECT, 0x1fff), 0x13ffff),
-    IN_FIVE("first reserved byte", NOTHING, 0x140000),
-    IN_FIVE("last reserved byte", NOTHING, 0x17ffff),
-    IN_FIVE("behind the reservation", SHOWS(1, 0x5000), 0x180000),
-    IN_FIVE("last page", SHOWS(9, LIMIT - PAGE), 0x1ff000),
-    IN_FIVE("last byte of the space", SHOWS(9, LIMIT - 1), 0x1fffff),
+    /* Each edge of the five: the last byte before it, the first behind it, and the second. */
+    IN_FIVE("one before the space", OUTSIDE, 0xfffff),
+    IN_FIVE("first byte", SHOWS(7, 0x3000, 0x2000), 0x100000),
+    IN_FIVE("second byte", SHOWS(7, 0x3001, 0x1fff), 0x100001),
+    IN_FIVE("last byte, a neighbour touches", SHOWS(7, 0x4fff, 1), 0x101fff),
+    IN_FIVE("first byte of the neighbour", SHOWS(8, 0, 0x1000), 0x102000),
+    IN_FIVE("second byte of the neighbour", SHOWS(8, 1, 0xfff), 0x102001),
+    IN_FIVE("last byte before a gap", SHOWS(8, 0xfff, 1), 0x102fff),
+    IN_FIVE("first byte of a gap", NOTHING(0x3c000), 0x103000),
+    IN_FIVE("second byte of a gap", NOTHING(0x3bfff), 0x103001),
+    IN_FIVE("last byte of a gap", NOTHING(1), 0x13efff),
+    IN_FIVE("behind a gap", SHOWS(HIGHEST_OBJECT, 0x1000, 0x1000), 0x13f000),
+    IN_FIVE("second byte behind a gap", SHOWS(HIGHEST_OBJECT, 0x1001, 0xfff), 0x13f001),
+    IN_FIVE("last byte before the reservation", SHOWS(HIGHEST_OBJECT, 0x1fff, 1), 0x13ffff),
+    IN_FIVE("first reserved byte", NOTHING(0x40000), 0x140000),
+    IN_FIVE("second reserved byte", NOTHING(0x3ffff), 0x140001),
+    IN_FIVE("last reserved byte", NOTHING(1), 0x17ffff),
+    IN_FIVE("behind the reservation", SHOWS(1, 0x5000, 0x1000), 0x180000),
+    IN_FIVE("second byte behind the reservation", SHOWS(1, 0x5001, 0xfff), 0x180001),
+    IN_FIVE("last byte before the last gap", SHOWS(1, 0x5fff, 1), 0x180fff),
+    IN_FIVE("first byte of the last gap", NOTHING(0x7e000), 0x181000),
+    IN_FIVE("second byte of the last gap", NOTHING(0x7dfff), 0x181001),
+    IN_FIVE("last byte of the last gap", NOTHING(1), 0x1fefff),
+    IN_FIVE("last page", SHOWS(9, LIMIT - PAGE, 0x1000), 0x1ff000),
+    IN_FIVE("second byte of the last page", SHOWS(9, LIMIT - PAGE + 1, 0xfff), 0x1ff001),
+    IN_FIVE("last byte of the space", SHOWS(9, LIMIT - 1, 1), 0x1fffff),
+    IN_FIVE("end of the space", OUTSIDE, 0x200000),
+    IN_FIVE("one behind the space's end", OUTSIDE, 0x200001),
 
-    /* Outside the space: answered, not refused. */
-    IN_FIVE("end of the space", NOTHING, 0x200000),
-    IN_FIVE("one before the space", NOTHING, 0xfffff),
-    IN_FIVE("address 0", NOTHING, 0),
-    IN_FIVE("address 2^48", NOTHING, LIMIT),
-    IN_FIVE("first byte and 2^32", NOTHING, (UINT64_C(1) << 32) + 0x100000),
-    IN_FIVE("first byte and 2^48", NOTHING, LIMIT + 0x100000),
-    IN_FIVE("first byte and 2^63", NOTHING, HALF + 0x100000),
-    IN_FIVE("highest address", NOTHING, UINT64_MAX),
-    {"all there is, first byte", SHOWS(7, 0), WIDEST, 0, FULL(1), {{0, LIMIT, 7, 0}}},
-    {"all there is, last byte", SHOWS(7, LIMIT - 1), WIDEST, LIMIT - 1, FULL(1),
+    /* Inside: a page of a mapping, the middle of a gap. */
+    IN_FIVE("second page", SHOWS(7, 0x4000, 0x1000), 0x101000),
+    IN_FIVE("middle of a gap", NOTHING(0x1f000), 0x120000),
+    IN_FIVE("middle of the reservation", NOTHING(0x20000), 0x160000),
+
+    /* Outside the space: answered, not refused, for no byte. */
+    IN_FIVE("address 0", OUTSIDE, 0),
+    IN_FIVE("address 2^48", OUTSIDE, LIMIT),
+    IN_FIVE("first byte and 2^32", OUTSIDE, (UINT64_C(1) << 32) + 0x100000),
+    IN_FIVE("first byte and 2^48", OUTSIDE, LIMIT + 0x100000),
+    IN_FIVE("first byte and 2^63", OUTSIDE, HALF + 0x100000),
+    IN_FIVE("highest address", OUTSIDE, UINT64_MAX),
+
+    /* One mapping is the whole space. */
+    {"whole, one before", OUTSIDE, FREE, 0xfffff, FULL(1), {WHOLE}},
+    {"whole, first byte", SHOWS(7, 0, 0x100000), FREE, 0x100000, FULL(1), {WHOLE}},
+    {"whole, second byte", SHOWS(7, 1, 0xfffff), FREE, 0x100001, FULL(1), {WHOLE}},
+    {"whole, last byte", SHOWS(7, 0xfffff, 1), FREE, 0x1fffff, FULL(1), {WHOLE}},
+    {"whole, behind it", OUTSIDE, FREE, 0x200000, FULL(1), {WHOLE}},
+    {"all there is, first byte", SHOWS(7, 0, LIMIT), WIDEST, 0, FULL(1), {{0, LIMIT, 7, 0}}},
+    {"all there is, second byte", SHOWS(7, 1, LIMIT - 1), WIDEST, 1, FULL(1), {{0, LIMIT, 7, 0}}},
+    {"all there is, last byte", SHOWS(7, LIMIT - 1, 1), WIDEST, LIMIT - 1, FULL(1),
      {{0, LIMIT, 7, 0}}},
-    {"all there is, behind it", NOTHING, WIDEST, LIMIT, FULL(1), {{0, LIMIT, 7, 0}}},
-    {"all there is, highest address", NOTHING, WIDEST, UINT64_MAX, FULL(1), {{0, LIMIT, 7, 0}}},
+    {"all there is, behind it", OUTSIDE, WIDEST, LIMIT, FULL(1), {{0, LIMIT, 7, 0}}},
+    {"all there is, highest address", OUTSIDE, WIDEST, UINT64_MAX, FULL(1), {{0, LIMIT, 7, 0}}},
+
+    /* A neighbour is not counted in, though it goes on with the object. */
+    AGREEING("agreeing, first byte", SHOWS(7, 0x3000, 0x2000), 0x100000),
+    AGREEING("agreeing, last byte of the first", SHOWS(7, 0x4fff, 1), 0x101fff),
+    AGREEING("agreeing, first byte of the second", SHOWS(7, 0x5000, 0x1000), 0x102000),
+    AGREEING("agreeing, last byte of the second", SHOWS(7, 0x5fff, 1), 0x102fff),
+    AGREEING("agreeing, behind both", NOTHING(0xfd000), 0x103000),
+
+    /* A gap is not cut at the reservation: in its middle, at the space's start, at its end. */
+    APART("apart, first byte of the space", NOTHING(0x10000), 0x100000),
+    APART("apart, last byte of the first gap", NOTHING(1), 0x10ffff),
+    APART("apart, first byte of the gap", NOTHING(0xaf000), 0x111000),
+    APART("apart, one before the reservation", NOTHING(0x80001), 0x13ffff),
+    APART("apart, first reserved byte", NOTHING(0x80000), 0x140000),
+    APART("apart, second reserved byte", NOTHING(0x7ffff), 0x140001),
+    APART("apart, last reserved byte", NOTHING(0x40001), 0x17ffff),
+    APART("apart, behind the reservation", NOTHING(0x40000), 0x180000),
+    APART("apart, last byte of the gap", NOTHING(1), 0x1bffff),
+    APART("apart, behind the last", NOTHING(0x3f000), 0x1c1000),
+    APART("apart, last byte of the space", NOTHING(1), 0x1fffff),
+    APART("apart, end of the space", OUTSIDE, 0x200000),
+    {"reserved at the start", NOTHING(0x20000), SPACE(0x100000, 0x100000, 0x100000, 0x10000),
+     0x100000, FULL(1), {{0x120000, PAGE, 7, 0}}},
+    {"behind what is reserved at the start", NOTHING(0x10000),
+     SPACE(0x100000, 0x100000, 0x100000, 0x10000), 0x110000, FULL(1), {{0x120000, PAGE, 7, 0}}},
+    {"before what is reserved at the end", NOTHING(0x10001),
+     SPACE(0x100000, 0x100000, 0x1f0000, 0x10000), 0x1effff, FULL(1), {{0x120000, PAGE, 7, 0}}},
+    {"reserved at the end", NOTHING(0x10000), SPACE(0x100000, 0x100000, 0x1f0000, 0x10000),
+     0x1f0000, FULL(1), {{0x120000, PAGE, 7, 0}}},
+
+    /* No mapping: to the space's end. */
+    EMPTY("empty, one before the space", OUTSIDE, COMMON, 0xfffff),
+    EMPTY("empty, first byte", NOTHING(0x100000), COMMON, 0x100000),
+    EMPTY("empty, second byte", NOTHING(0xfffff), COMMON, 0x100001),
+    EMPTY("empty, first reserved byte", NOTHING(0xc0000), COMMON, 0x140000),
+    EMPTY("empty, last byte", NOTHING(1), COMMON, 0x1fffff),
+    EMPTY("empty, end of the space", OUTSIDE, COMMON, 0x200000),
+    EMPTY("empty, address 0", OUTSIDE, COMMON, 0),
+    EMPTY("empty, highest address", OUTSIDE, COMMON, UINT64_MAX),
+    EMPTY("widest and empty, first byte", NOTHING(LIMIT), WIDEST, 0),
+    EMPTY("widest and empty, second byte", NOTHING(LIMIT - 1), WIDEST, 1),
+    EMPTY("widest and empty, last byte", NOTHING(1), WIDEST, LIMIT - 1),
+    EMPTY("widest and empty, behind it", OUTSIDE, WIDEST, LIMIT),
+    EMPTY("widest and empty, highest address", OUTSIDE, WIDEST, UINT64_MAX),
+    EMPTY("last page of all, one before", OUTSIDE, SPACE(LIMIT - PAGE, PAGE, 0, 0),
+          LIMIT - PAGE - 1),
+    EMPTY("last page of all, first byte", NOTHING(PAGE), SPACE(LIMIT - PAGE, PAGE, 0, 0),
+          LIMIT - PAGE),
+    EMPTY("last page of all, last byte", NOTHING(1), SPACE(LIMIT - PAGE, PAGE, 0, 0), LIMIT - 1),
+    EMPTY("last page of all, behind it", OUTSIDE, SPACE(LIMIT - PAGE, PAGE, 0, 0), LIMIT),
 
     /* 1: the space, whatever the rest. */
     IN_SPACE("start one above", REFUSED(1), SPACE(0x100001, 0x100000, 0x140000, 0x40000)),
@@ -85,7 +171,7 @@ static const struct test_case cases[] = {
     IN_SPACE("size 0", REFUSED(1), SPACE(0x100000, 0, 0, 0)),
     IN_SPACE("all 0", REFUSED(1), SPACE(0, 0, 0, 0)),
     IN_SPACE("all highest", REFUSED(1), SPACE(UINT64_MAX, UINT64_MAX, UINT64_MAX, UINT64_MAX)),
-    IN_SPACE("ends at 2^48", SHOWS(7, 0x3000), SPACE(0x100000, LIMIT - 0x100000, 0, 0)),
+    IN_SPACE("ends at 2^48", SHOWS(7, 0x3000, 0x2000), SPACE(0x100000, LIMIT - 0x100000, 0, 0)),
     IN_SPACE("ends a page above 2^48", REFUSED(1),
              SPACE(0x100000, LIMIT - 0x100000 + PAGE, 0, 0)),
     IN_SPACE("ends above 2^64", REFUSED(1), SPACE(LAST_PAGE, 2 * PAGE, 0, 0)),
@@ -101,18 +187,18 @@ static const struct test_case cases[] = {
     {"length 1", REFUSED(2), COMMON, 0x100000, 0, 1, FIVE},
     {"length 2", REFUSED(2), COMMON, 0x100000, 0, 2, FIVE},
     {"length 3", REFUSED(2), COMMON, 0x100000, 0, 3, FIVE},
-    {"length 4", SHOWS(7, 0x3000), COMMON, 0x100000, 1, 4, FIVE},
+    {"length 4", SHOWS(7, 0x3000, 0x2000), COMMON, 0x100000, 1, 4, FIVE},
     {"length 5", REFUSED(2), COMMON, 0x100000, 1, 5, FIVE},
     {"length 6", REFUSED(2), COMMON, 0x100000, 1, 6, FIVE},
     {"length 7", REFUSED(2), COMMON, 0x100000, 1, 7, FIVE},
-    {"length 2044", SHOWS(7, 0x3000), COMMON, 0x100000, 5, 2044, FIVE},
+    {"length 2044", SHOWS(7, 0x3000, 0x2000), COMMON, 0x100000, 5, 2044, FIVE},
     {"length 2047", REFUSED(2), COMMON, 0x100000, 5, 2047, FIVE},
-    {"length 2048", SHOWS(7, 0x3000), COMMON, 0x100000, 5, 2048, FIVE},
+    {"length 2048", SHOWS(7, 0x3000, 0x2000), COMMON, 0x100000, 5, 2048, FIVE},
     {"length 2049", REFUSED(2), COMMON, 0x100000, 5, 2049, FIVE},
-    {"length 2052", SHOWS(7, 0x3000), COMMON, 0x100000, 5, 2052, FIVE},
-    {"length 16380", SHOWS(7, 0x3000), COMMON, 0x100000, 5, 16380, FIVE},
+    {"length 2052", SHOWS(7, 0x3000, 0x2000), COMMON, 0x100000, 5, 2052, FIVE},
+    {"length 16380", SHOWS(7, 0x3000, 0x2000), COMMON, 0x100000, 5, 16380, FIVE},
     {"length 16383", REFUSED(2), COMMON, 0x100000, 5, 16383, FIVE},
-    {"length 16384", SHOWS(7, 0x3000), COMMON, 0x100000, 5, 16384, FIVE},
+    {"length 16384", SHOWS(7, 0x3000, 0x2000), COMMON, 0x100000, 5, 16384, FIVE},
     {"length 16385", REFUSED(2), COMMON, 0x100000, 5, 16385, FIVE},
     {"length 16388", REFUSED(2), COMMON, 0x100000, 5, 16388, FIVE},
     {"length 20000", REFUSED(2), COMMON, 0x100000, 5, LONGEST_TABLE, FIVE},
@@ -121,10 +207,11 @@ static const struct test_case cases[] = {
     {"length before mappings", REFUSED(2), COMMON, 0x100000, 1, 7, {ONES}},
 
     /* 4: the count. */
-    {"count 0", NOTHING, COMMON, 0x100000, 0, 20, FIVE},
-    {"count 0 of one", NOTHING, COMMON, 0x100000, 0, 4, {ONES}},
-    {"count below the room", SHOWS(1, 0x5000), COMMON, 0x180000, 4, 20, FIVE},
-    {"the first word behind the count", NOTHING, COMMON, 0x1ff000, 4, 20, FIVE},
+    {"count 0", NOTHING(0x100000), COMMON, 0x100000, 0, 20, FIVE},
+    {"count 0 of one", NOTHING(0x100000), COMMON, 0x100000, 0, 4, {ONES}},
+    {"count below the room", SHOWS(1, 0x5000, 0x1000), COMMON, 0x180000, 4, 20, FIVE},
+    {"the first word behind the count", NOTHING(0x1000), COMMON, 0x1ff000, 4, 20, FIVE},
+    {"to the end, past what is behind the count", NOTHING(0x7f000), COMMON, 0x181000, 4, 20, FIVE},
     {"count a mapping above", REFUSED(4), COMMON, 0x100000, 6, 20, FIVE},
     {"count of the words", REFUSED(4), COMMON, 0x100000, 20, 20, FIVE},
     {"count 2^32 above", REFUSED(4), COMMON, 0x100000, (UINT64_C(1) << 32) + 5, 20, FIVE},
@@ -133,11 +220,12 @@ static const struct test_case cases[] = {
     {"count 513 of 512", REFUSED(4), COMMON, 0x100000, 513, 2048, FIVE},
     {"count above the most", REFUSED(4), COMMON, 0x100000, 4097, 16384, FIVE},
     {"count before mappings", REFUSED(4), COMMON, 0x100000, 2, 4, {ONES}},
-    {"bad mapping behind the count", SHOWS(7, 0x3000), COMMON, 0x100000, 1, 8, {FIRST, ONES}},
+    {"bad mapping behind the count", SHOWS(7, 0x3000, 0x2000), COMMON, 0x100000, 1, 8,
+     {FIRST, ONES}},
     {"bad mapping at the count", BAD_PLACE(1), COMMON, 0x100000, 2, 8, {FIRST, ONES}},
 
     /* 5: multiples of a page, and size 0. */
-    ALONE("one page", SHOWS(7, PAGE), 0x100000, PAGE, 7, PAGE),
+    ALONE("one page", SHOWS(7, PAGE, PAGE), 0x100000, PAGE, 7, PAGE),
     ALONE("address one above", BAD_PLACE(0), 0x100001, PAGE, 7, 0),
     ALONE("address half a page above", BAD_PLACE(0), 0x100800, PAGE, 7, 0),
     ALONE("size 0", BAD_PLACE(0), 0x100000, 0, 7, 0),
@@ -149,14 +237,15 @@ static const struct test_case cases[] = {
 
     /* 5: the object. */
     ALONE("object 0", BAD_PLACE(0), 0x100000, PAGE, 0, 0),
-    ALONE("object 1", SHOWS(1, 0), 0x100000, PAGE, 1, 0),
-    ALONE("highest object", SHOWS(HIGHEST_OBJECT, 0), 0x100000, PAGE, HIGHEST_OBJECT, 0),
+    ALONE("object 1", SHOWS(1, 0, PAGE), 0x100000, PAGE, 1, 0),
+    ALONE("highest object", SHOWS(HIGHEST_OBJECT, 0, PAGE), 0x100000, PAGE, HIGHEST_OBJECT, 0),
     ALONE("object 2^32", BAD_PLACE(0), 0x100000, PAGE, HIGHEST_OBJECT + 1, 0),
     ALONE("object 2^32 + 7", BAD_PLACE(0), 0x100000, PAGE, HIGHEST_OBJECT + 8, 0),
     ALONE("object 2^63", BAD_PLACE(0), 0x100000, PAGE, HALF, 0),
 
     /* 5: offset and size. */
-    ALONE("offset and size are 2^48", SHOWS(7, LIMIT - PAGE), 0x100000, PAGE, 7, LIMIT - PAGE),
+    ALONE("offset and size are 2^48", SHOWS(7, LIMIT - PAGE, PAGE), 0x100000, PAGE, 7,
+          LIMIT - PAGE),
     ALONE("offset and size a page above", BAD_PLACE(0), 0x100000, 2 * PAGE, 7, LIMIT - PAGE),
     ALONE("offset 2^48", BAD_PLACE(0), 0x100000, PAGE, 7, LIMIT),
     ALONE("offset 2^63", BAD_PLACE(0), 0x100000, PAGE, 7, HALF),
@@ -166,7 +255,7 @@ static const struct test_case cases[] = {
     /* 5: inside the space. */
     ALONE("a page below the first", BAD_PLACE(0), 0xff000, PAGE, 7, 0),
     ALONE("from a page below the start", BAD_PLACE(0), 0xff000, 2 * PAGE, 7, 0),
-    ALONE("last page alone", SHOWS(7, 0), 0x1ff000, PAGE, 7, 0),
+    ALONE("last page alone", SHOWS(7, 0, PAGE), 0x1ff000, PAGE, 7, 0),
     ALONE("to a page above the end", BAD_PLACE(0), 0x1ff000, 2 * PAGE, 7, 0),
     ALONE("a page above the last", BAD_PLACE(0), 0x200000, PAGE, 7, 0),
     ALONE("ends at 2^64", BAD_PLACE(0), LAST_PAGE, PAGE, 7, 0),
@@ -179,22 +268,22 @@ static const struct test_case cases[] = {
     {"widest space, a page more", BAD_PLACE(0), WIDEST, 0, FULL(1), {{0, LIMIT + PAGE, 7, 0}}},
 
     /* 5: the reservation. */
-    ALONE("touches from below", SHOWS(7, 0), 0x13f000, PAGE, 7, 0),
+    ALONE("touches from below", SHOWS(7, 0, PAGE), 0x13f000, PAGE, 7, 0),
     ALONE("shares the first reserved page", BAD_PLACE(0), 0x13f000, 2 * PAGE, 7, 0),
     ALONE("is the first reserved page", BAD_PLACE(0), 0x140000, PAGE, 7, 0),
     ALONE("inside the reservation", BAD_PLACE(0), 0x150000, PAGE, 7, 0),
     ALONE("is the last reserved page", BAD_PLACE(0), 0x17f000, PAGE, 7, 0),
     ALONE("shares the last reserved page", BAD_PLACE(0), 0x17f000, 2 * PAGE, 7, 0),
-    ALONE("touches from above", SHOWS(7, 0), 0x180000, PAGE, 7, 0),
+    ALONE("touches from above", SHOWS(7, 0, PAGE), 0x180000, PAGE, 7, 0),
     ALONE("around the reservation", BAD_PLACE(0), 0x100000, 0x100000, 7, 0),
-    {"nothing is reserved", SHOWS(7, 0), FREE, 0x150000, FULL(1), {{0x150000, PAGE, 7, 0}}},
-    {"nothing is reserved, address 0", SHOWS(7, 0), WIDEST, 0, FULL(1), {{0, PAGE, 7, 0}}},
+    {"nothing is reserved", SHOWS(7, 0, PAGE), FREE, 0x150000, FULL(1), {{0x150000, PAGE, 7, 0}}},
+    {"nothing is reserved, address 0", SHOWS(7, 0, PAGE), WIDEST, 0, FULL(1), {{0, PAGE, 7, 0}}},
     {"all is reserved", BAD_PLACE(0), ALL_RESERVED, 0x150000, FULL(1), {{0x150000, PAGE, 7, 0}}},
-    {"all is reserved, no mapping", NOTHING, ALL_RESERVED, 0x150000, 0, 4, {ONES}},
+    {"all is reserved, no mapping", NOTHING(0xb0000), ALL_RESERVED, 0x150000, 0, 4, {ONES}},
 
     /* 5: the order. */
-    PAIR("apart", SHOWS(7, 0), 0x100000, 0x2000, 0x103000, 0x1000),
-    PAIR("touching", SHOWS(7, 0), 0x100000, 0x2000, 0x102000, 0x1000),
+    PAIR("apart", SHOWS(7, 0, 0x2000), 0x100000, 0x2000, 0x103000, 0x1000),
+    PAIR("touching", SHOWS(7, 0, 0x2000), 0x100000, 0x2000, 0x102000, 0x1000),
     PAIR("sharing a page", BAD_PLACE(1), 0x100000, 0x2000, 0x101000, 0x2000),
     PAIR("equal", BAD_PLACE(1), 0x100000, 0x2000, 0x100000, 0x2000),
     PAIR("the second inside the first", BAD_PLACE(1), 0x100000, 0x3000, 0x101000, 0x1000),
@@ -226,18 +315,43 @@ struct full_case {
 };
 
 static const struct full_case full_cases[] = {
-    {"first of 4096", SHOWS(1, 0), 0, MOST_MAPPINGS},
-    {"last byte of the first of 4096", SHOWS(1, 0xfff), 0xfff, MOST_MAPPINGS},
-    {"at 511 of 4096", SHOWS(512, 0x3fefff), 0x1fffff, MOST_MAPPINGS},
-    {"at 512 of 4096", SHOWS(513, 0x400000), 0x200000, MOST_MAPPINGS},
-    {"in the middle of 4096", SHOWS(2049, 0x1000005), 0x800005, MOST_MAPPINGS},
-    {"last of 4096", SHOWS(4096, 0x1ffe000), 0xfff000, MOST_MAPPINGS},
-    {"last byte of 4096", SHOWS(4096, 0x1ffefff), 0xffffff, MOST_MAPPINGS},
-    {"behind 4096", NOTHING, 0x1000000, MOST_MAPPINGS},
+    {"first of 4096", SHOWS(1, 0, PAGE), 0, MOST_MAPPINGS},
+    {"last byte of the first of 4096", SHOWS(1, 0xfff, 1), 0xfff, MOST_MAPPINGS},
+    {"at 511 of 4096", SHOWS(512, 0x3fefff, 1), 0x1fffff, MOST_MAPPINGS},
+    {"at 512 of 4096", SHOWS(513, 0x400000, PAGE), 0x200000, MOST_MAPPINGS},
+    {"in the middle of 4096", SHOWS(2049, 0x1000005, PAGE - 5), 0x800005, MOST_MAPPINGS},
+    {"last of 4096", SHOWS(4096, 0x1ffe000, PAGE), 0xfff000, MOST_MAPPINGS},
+    {"last byte of 4096", SHOWS(4096, 0x1ffefff, 1), 0xffffff, MOST_MAPPINGS},
+    {"behind 4096", NOTHING(LIMIT - 0x1000000), 0x1000000, MOST_MAPPINGS},
     {"bad at 0 of 4096", BAD_PLACE(0), 0xfff000, 0},
     {"bad at 512 of 4096", BAD_PLACE(512), 0, 512},
     {"bad at 2048 of 4096", BAD_PLACE(2048), 0, 2048},
     {"bad at 4095 of 4096", BAD_PLACE(4095), 0, 4095},
+};
+
+/* Mappings in a row, alike and in equal steps. All agree in object and displacement. */
+struct row {
+    const char *name;
+    waylluqen_space space;
+    size_t count;
+    uint64_t first; /* address */
+    uint64_t size;
+    uint64_t step; /* to the next one's address */
+};
+
+/* A space of so many pages from a page on. */
+#define PAGES(first, pages) {(first) * PAGE, (pages) * PAGE, 0, 0}
+#define LAST_PAGES(pages) {LIMIT - (pages) * PAGE, (pages) * PAGE, 0, 0}
+
+static const struct row rows[] = {
+    {"touching in all of a space", PAGES(0, 4096), 4096, 0, PAGE, PAGE},
+    {"touching inside a space", PAGES(1, 8192), 4096, 2048 * PAGE, PAGE, PAGE},
+    {"a page apart, up to 2^48", LAST_PAGES(1536), 512, LIMIT - 1535 * PAGE, 2 * PAGE, 3 * PAGE},
+    {"two pages apart, from 0 on", WIDEST, 4096, 0, PAGE, 3 * PAGE},
+    {"on both sides of the reservation", COMMON, 2, 0x110000, PAGE, 0xb0000},
+    {"all there is", WIDEST, 1, 0, LIMIT, LIMIT},
+    {"no mapping", COMMON, 0, 0, 0, 0},
+    {"no mapping, and all is reserved", ALL_RESERVED, 0, 0, 0, 0},
 };
 
 static struct lent lent;
@@ -257,15 +371,34 @@ static const uint64_t *lend_to_read(const uint64_t *words, size_t table_words, i
 
 static void print_answer(const char *what, waylluqen_translation answer)
 {
-    printf("  %s: refusal %" PRIu64 ", place %" PRIu64 ", mapped %" PRIu64, what, answer.refusal,
-           answer.place, answer.mapped);
-    printf(", object %#" PRIx64 ", offset %#" PRIx64 "\n", answer.object, answer.offset);
+    printf("  %s: refusal %" PRIu64 ", place %" PRIu64 ", shown %" PRIu64, what, answer.refusal,
+           answer.place, answer.shown);
+    printf(", object %#" PRIx64 ", offset %#" PRIx64 ", bytes %#" PRIx64 "\n", answer.object,
+           answer.offset, answer.bytes);
 }
 
 static int is_same(waylluqen_translation one, waylluqen_translation other)
 {
-    return one.refusal == other.refusal && one.place == other.place &&
-           one.mapped == other.mapped && one.object == other.object && one.offset == other.offset;
+    return one.refusal == other.refusal && one.place == other.place && one.shown == other.shown &&
+           one.object == other.object && one.offset == other.offset && one.bytes == other.bytes;
+}
+
+static waylluqen_translation look_up(const struct test_case *test, const uint64_t *table)
+{
+    return waylluqen_lookup(test->space, table, test->table_words, test->count, test->address);
+}
+
+/* Answers 1 where the library's answer is not the expected one. */
+static int is_wrong(const struct test_case *test, const uint64_t *table)
+{
+    waylluqen_translation answer = look_up(test, table);
+    if (is_same(answer, test->expected)) {
+        return 0;
+    }
+    printf("host/c: %s, at %#" PRIx64 "\n", test->name, test->address);
+    print_answer("expected", test->expected);
+    print_answer("answered", answer);
+    return 1;
 }
 
 /* Answers 1 where the library's answer is not the expected one. The words may lie anywhere. */
@@ -277,12 +410,7 @@ static int differs(const struct test_case *test, const uint64_t *words)
             printf("host/c: %s: mprotect failed\n", test->name);
             return 1;
         }
-        waylluqen_translation answer =
-            waylluqen_lookup(test->space, table, test->table_words, test->count, test->address);
-        if (!is_same(answer, test->expected)) {
-            printf("host/c: %s\n", test->name);
-            print_answer("expected", test->expected);
-            print_answer("answered", answer);
+        if (is_wrong(test, table)) {
             return 1;
         }
     }
@@ -314,10 +442,113 @@ static int run_full_case(const struct full_case *full)
     return differs(&test, words);
 }
 
+static void fill_row(const struct row *row, struct mapping *mappings)
+{
+    for (size_t place = 0; place < row->count; place++) {
+        uint64_t address = row->first + place * row->step;
+        mappings[place] = (struct mapping){address, row->size, 7, address};
+    }
+}
+
+/* What a look-up in a table that keeps its rules should answer: all mappings are looked at. */
+static waylluqen_translation foresee(const struct test_case *test, const struct mapping *mappings)
+{
+    const uint64_t address = test->address, end = test->space.start + test->space.size;
+    waylluqen_translation expected = OUTSIDE;
+    if (address < test->space.start || address >= end) {
+        return expected;
+    }
+    expected.bytes = end - address;
+    for (size_t place = test->count; place-- > 0;) {
+        const struct mapping *mapping = &mappings[place];
+        if (address < mapping->address) {
+            expected.bytes = mapping->address - address;
+        } else if (address < mapping->address + mapping->size) {
+            uint64_t in = address - mapping->address;
+            expected = (waylluqen_translation)SHOWS(mapping->object, mapping->offset + in,
+                                                    mapping->size - in);
+        }
+    }
+    return expected;
+}
+
+/* Looks up at an edge, at the byte before it and at the one behind; before 0 is the highest. */
+static int edge_differs(struct test_case *test, const uint64_t *table,
+                        const struct mapping *mappings, uint64_t edge)
+{
+    for (uint64_t i = 0; i < 3; i++) {
+        test->address = edge - 1 + i;
+        test->expected = foresee(test, mappings);
+        if (is_wrong(test, table)) {
+            return 1;
+        }
+    }
+    return 0;
+}
+
+/* The walk that the header shows: each mapping comes back whole, once and in order, each gap at
+ * once, and the space's end ends it. */
+static int walk_differs(struct test_case *test, const uint64_t *table,
+                        const struct mapping *mappings)
+{
+    waylluqen_translation run, last = SHOWS(0, 0, 0);
+    size_t place = 0;
+    for (test->address = test->space.start;; test->address += run.bytes, last = run) {
+        run = look_up(test, table);
+        if (run.bytes == 0) {
+            break;
+        }
+        struct mapping seen = {test->address, run.bytes, run.object, run.offset};
+        if (run.shown != WAYLLUQEN_SHOWN_OBJECT
+                ? last.shown == run.shown
+                : place == test->count || memcmp(&seen, &mappings[place++], sizeof seen) != 0) {
+            break;
+        }
+    }
+    if (test->address == test->space.start + test->space.size && place == test->count) {
+        return 0;
+    }
+    printf("host/c: %s: a walk ended at %#" PRIx64 ", place %zu\n", test->name, test->address,
+           place);
+    return 1;
+}
+
+/* Every edge of a row and of its space, and a walk over it. */
+static int run_row(const struct row *row)
+{
+    static struct mapping mappings[MOST_MAPPINGS];
+    static uint64_t words[MOST_MAPPINGS * MAPPING_WORDS];
+    const waylluqen_space space = row->space;
+    const uint64_t edges[] = {0, LIMIT, HALF, space.start, space.start + space.size,
+                              space.reserved_start, space.reserved_start + space.reserved_size};
+    struct test_case test = {.name = row->name, .space = space, .count = row->count};
+    test.table_words = (row->count > 0 ? row->count : 1) * MAPPING_WORDS;
+    fill_row(row, mappings);
+    memcpy(words, mappings, sizeof words);
+    const uint64_t *table = lend_to_read(words, test.table_words, 1);
+    if (table == NULL) {
+        printf("host/c: %s: mprotect failed\n", row->name);
+        return 1;
+    }
+    for (size_t i = 0; i < sizeof edges / sizeof edges[0]; i++) {
+        if (edge_differs(&test, table, mappings, edges[i])) {
+            return 1;
+        }
+    }
+    for (const struct mapping *mapping = mappings; mapping < mappings + row->count; mapping++) {
+        if (edge_differs(&test, table, mappings, mapping->address) ||
+            edge_differs(&test, table, mappings, mapping->address + mapping->size)) {
+            return 1;
+        }
+    }
+    return walk_differs(&test, table, mappings);
+}
+
 int main(void)
 {
     const size_t count = sizeof cases / sizeof cases[0];
     const size_t full_count = sizeof full_cases / sizeof full_cases[0];
+    const size_t row_count = sizeof rows / sizeof rows[0];
     size_t failed = 0;
 
     if (!prepare(&lent, LONGEST_TABLE)) {
@@ -330,10 +561,15 @@ int main(void)
     for (size_t i = 0; i < full_count; i++) {
         failed += (size_t)run_full_case(&full_cases[i]);
     }
+    for (size_t i = 0; i < row_count; i++) {
+        failed += (size_t)run_row(&rows[i]);
+    }
     if (failed != 0) {
-        printf("host/c: %zu of %zu look-ups failed\n", failed, count + full_count);
+        printf("host/c: %zu of %zu look-ups and rows failed\n", failed,
+               count + full_count + row_count);
         return 1;
     }
-    printf("host/c: %zu look-ups passed\n", count + full_count);
+    printf("host/c: %zu look-ups and the edges of %zu rows passed\n", count + full_count,
+           row_count);
     return 0;
 }

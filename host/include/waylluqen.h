@@ -20,9 +20,9 @@ extern "C" {
  * Waylluqen keeps one GPU address space as a sorted table of mappings, in memory that the caller
  * lends. waylluqen_bind() and waylluqen_bind_record() map or unmap a range: they cut what is
  * mapped there out of the table, and write the list of operations that a driver carries out on
- * its page tables. waylluqen_lookup() tells what an address shows. waylluqen_check_request()
- * tells beforehand what is wrong with a request. All that is kept between two calls is the
- * caller's: a space, the table's words and their count.
+ * its page tables. waylluqen_lookup() tells what an address shows, and how far that goes on.
+ * waylluqen_check_request() tells beforehand what is wrong with a request. All that is kept between
+ * two calls is the caller's: a space, the table's words and their count.
  *
  * Any table, any request and any numbers get an answer, and it is proved to be the one that is
  * written here: &waylluqen_answer.refusal is %WAYLLUQEN_OK, or the first rule that is broken,
@@ -49,7 +49,7 @@ extern "C" {
 #define WAYLLUQEN_VERSION_MAJOR 0
 #define WAYLLUQEN_VERSION_MINOR 1
 #define WAYLLUQEN_VERSION_PATCH 0
-#define WAYLLUQEN_INTERFACE waylluqen_interface_3
+#define WAYLLUQEN_INTERFACE waylluqen_interface_4
 
 /**
  * DOC: What the caller ensures
@@ -280,6 +280,16 @@ enum waylluqen_record_byte {
 };
 
 /**
+ * enum waylluqen_shown - what an address shows
+ * @WAYLLUQEN_SHOWN_NOTHING: nothing: it is in no mapping
+ * @WAYLLUQEN_SHOWN_OBJECT: a byte of an object
+ */
+enum waylluqen_shown {
+    WAYLLUQEN_SHOWN_NOTHING = 0,
+    WAYLLUQEN_SHOWN_OBJECT = 1
+};
+
+/**
  * struct waylluqen_space - an address space, and the part of it that nobody may map
  * @start: its first address
  * @size: its size in bytes
@@ -332,16 +342,19 @@ typedef struct waylluqen_answer {
  * struct waylluqen_translation - the answer to a look-up; what does not apply is 0
  * @refusal: %WAYLLUQEN_OK where it is answered, or why it is not
  * @place: for %WAYLLUQEN_REFUSED_BAD_MAPPING the lowest place, from 0, of a mapping at fault
- * @mapped: 1 if the address is in a mapping
- * @object: what is mapped there
- * @offset: which byte of the object the address shows
+ * @shown: one of &enum waylluqen_shown
+ * @object: which object the address shows
+ * @offset: which byte of the object it shows
+ * @bytes: for how many bytes, from the address on, the answer goes on in the same way; at least 1
+ *     inside the space, 0 outside
  */
 typedef struct waylluqen_translation {
     uint64_t refusal;
     uint64_t place;
-    uint64_t mapped;
+    uint64_t shown;
     uint64_t object;
     uint64_t offset;
+    uint64_t bytes;
 } waylluqen_translation;
 
 #ifndef WAYLLUQEN_LAYOUTS_ONLY
@@ -433,7 +446,7 @@ waylluqen_answer waylluqen_bind_record(waylluqen_space space, uint64_t *table, s
                                        size_t record_bytes);
 
 /**
- * waylluqen_lookup() - what the byte at an address shows
+ * waylluqen_lookup() - what the byte at an address shows, and how far that goes on
  * @space: the space
  * @table: its table
  * @table_words: how many words the table has
@@ -443,9 +456,28 @@ waylluqen_answer waylluqen_bind_record(waylluqen_space space, uint64_t *table, s
  * An address inside a mapping shows the mapping's object at offset + (address - the mapping's
  * address). Any other shows nothing, and that is no refusal. Nothing is written.
  *
+ * The answer goes on in the same way to the mapping's end, each byte with the next one of the
+ * object; where nothing is shown, to the next mapping's address, or to the space's end if there is
+ * none behind. A neighbour is not counted in, also where it touches and goes on with the same
+ * object; a gap is not cut at the reservation. Outside the space the number of bytes is 0.
+ *
+ * A range is walked with one look-up for each run of bytes::
+ *
+ *      waylluqen_translation run;
+ *      for (uint64_t at = start; at < end; at += run.bytes) {
+ *          run = waylluqen_lookup(space, table, table_words, count, at);
+ *          if (run.bytes == 0) {
+ *              break; // refused, or outside the space
+ *          }
+ *          // [at, at + run.bytes) shows run.object from run.offset on, or nothing; the last run
+ *          // may go on behind the range's end
+ *      }
+ *
+ * Each of these look-ups checks the table.
+ *
  * Returns: the first of %WAYLLUQEN_REFUSED_BAD_SPACE, %WAYLLUQEN_REFUSED_BAD_TABLE_LENGTH,
  * %WAYLLUQEN_REFUSED_BAD_COUNT and %WAYLLUQEN_REFUSED_BAD_MAPPING that applies; or %WAYLLUQEN_OK
- * with what the address shows.
+ * with what the address shows and for how many bytes.
  */
 waylluqen_translation waylluqen_lookup(waylluqen_space space, const uint64_t *table,
                                        size_t table_words, uint64_t count, uint64_t address);
