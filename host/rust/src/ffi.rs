@@ -25,9 +25,9 @@ use crate::{Request, Space};
 /// ```
 /// use waylluqen::{ffi, Space};
 ///
-/// let shown = ffi::lookup(Space::new(0, 0x1_0000), &[0x1000, 0x1000, 7, 0], 1, 0x1008);
-/// let words = ffi::Translation { refusal: 0, place: 0, mapped: 1, object: 7, offset: 8 };
-/// assert_eq!(shown, words);
+/// let seen = ffi::lookup(Space::new(0, 0x1_0000), &[0x1000, 0x1000, 7, 0], 1, 0x1008);
+/// assert_eq!((seen.refusal, seen.place), (0, 0));
+/// assert_eq!((seen.shown, seen.object, seen.offset, seen.bytes), (1, 7, 8, 0xff8));
 /// ```
 #[repr(C)]
 #[derive(Clone, Copy, Debug, PartialEq, Eq)]
@@ -36,12 +36,14 @@ pub struct Translation {
     pub refusal: u64,
     /// The place of a mapping that is refused.
     pub place: u64,
-    /// 1 where the address is in a mapping.
-    pub mapped: u64,
-    /// The object that is mapped there.
+    /// What the address shows: 0 is nothing, 1 an object.
+    pub shown: u64,
+    /// The object that the address shows.
     pub object: u64,
-    /// The byte of the object that the address shows.
+    /// The byte of the object that it shows.
     pub offset: u64,
+    /// For how many bytes, from the address on, the answer goes on in the same way.
+    pub bytes: u64,
 }
 
 /// The answer to a request: `waylluqen_answer`.
@@ -67,7 +69,7 @@ pub struct Answer {
 }
 
 extern "C" {
-    fn waylluqen_interface_3() -> u32;
+    fn waylluqen_interface_4() -> u32;
 
     fn waylluqen_check_request(
         record: *const u8,
@@ -110,7 +112,7 @@ extern "C" {
 
 // Needs the archive that these declarations are of: with another one the program does not link.
 #[used]
-static INTERFACE: unsafe extern "C" fn() -> u32 = waylluqen_interface_3;
+static INTERFACE: unsafe extern "C" fn() -> u32 = waylluqen_interface_4;
 
 /// Calls `waylluqen_check_request`: the number of the first reason to refuse a record, or 0.
 ///
@@ -140,8 +142,8 @@ pub fn check_request(space: Space, record: &[u8]) -> u32 {
 /// ```
 /// use waylluqen::{ffi, Space};
 ///
-/// let shown = ffi::lookup(Space::new(0, 0x1_0000), &[0; 4], 0, 0x1000);
-/// assert_eq!((shown.refusal, shown.mapped), (0, 0));
+/// let seen = ffi::lookup(Space::new(0, 0x1_0000), &[0; 4], 0, 0x1000);
+/// assert_eq!((seen.refusal, seen.shown, seen.bytes), (0, 0, 0xf000));
 /// ```
 #[inline]
 pub fn lookup(space: Space, table: &[u64], count: u64, address: u64) -> Translation {

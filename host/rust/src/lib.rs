@@ -3,14 +3,15 @@
 //!
 //! A driver lends words for a [`Table`] of mappings and words for a list of operations. To map or
 //! unmap a range it asks [`Table::bind`], which cuts what is mapped there out of the table and
-//! gives the operations to carry out; [`Table::lookup`] tells what an address shows, and so does a
-//! [`View`], a table by shared borrow. Nothing is asked of the words and the numbers: a table or a
-//! request that breaks a rule is refused with a [`Refusal`], and then no lent word has changed.
+//! gives the operations to carry out. [`Table::lookup`] tells what an address shows and how far
+//! that goes on, and [`Table::runs`] walks a range by it; so does a [`View`], a table by shared
+//! borrow. Nothing is asked of the words and the numbers: a table or a request that breaks a rule
+//! is refused with a [`Refusal`], and then no lent word has changed.
 //!
 //! The work is done by a proved static library; this crate gives it a safe Rust interface.
 //!
 //! ```
-//! use waylluqen::{operation_list_words, table_words, Operation, Request, Space, Table};
+//! use waylluqen::{operation_list_words, table_words, Operation, Request, Shown, Space, Table};
 //!
 //! const CAPACITY: usize = 8;
 //! let space = Space::new(0x10_0000, 0x10_0000);
@@ -26,8 +27,9 @@
 //!         Operation::Unmap { old, keep } => unreachable!("{old:?} {keep}"),
 //!     }
 //! }
-//! let shown = table.lookup(space, 0x10_2008)?.expect("this page is mapped");
-//! assert_eq!((shown.object, shown.offset), (7, 0x2008));
+//! let seen = table.lookup(space, 0x10_2008)?;
+//! assert_eq!(seen.shown, Shown::Object { object: 7, offset: 0x2008 });
+//! assert_eq!(seen.bytes, 0xff8); // to the mapping's end
 //! # Ok::<(), waylluqen::Refusal>(())
 //! ```
 
@@ -40,6 +42,8 @@ mod mapping;
 mod operation;
 mod refusal;
 mod request;
+mod runs;
+mod seen;
 mod space;
 mod table;
 mod view;
@@ -48,9 +52,11 @@ pub use mapping::Mapping;
 pub use operation::{Operation, Operations, Rests};
 pub use refusal::Refusal;
 pub use request::{check_request, Request};
+pub use runs::{Run, Runs};
+pub use seen::{Seen, Shown};
 pub use space::Space;
 pub use table::Table;
-pub use view::{Translation, View};
+pub use view::View;
 
 /// The size of a page in bytes: addresses, sizes and offsets are multiples of it.
 ///
@@ -69,8 +75,9 @@ pub const PAGE_SIZE: u64 = 4096;
 ///
 /// let mut words = [0; 4];
 /// let table = Table::empty(&mut words);
-/// assert_eq!(table.lookup(Space::new(0, LIMIT), 0), Ok(None));
+/// assert_eq!(table.lookup(Space::new(0, LIMIT), 0)?.bytes, LIMIT);
 /// assert_eq!(table.lookup(Space::new(PAGE_SIZE, LIMIT), 0), Err(Refusal::BadSpace));
+/// # Ok::<(), Refusal>(())
 /// ```
 pub const LIMIT: u64 = 1 << 48;
 
@@ -96,7 +103,7 @@ pub const MAX_OBJECT: u64 = 0xffff_ffff;
 ///
 /// let space = Space::new(0, PAGE_SIZE);
 /// let mut words = vec![0; table_words(MAX_MAPPINGS)];
-/// assert_eq!(Table::empty(&mut words).lookup(space, 0), Ok(None));
+/// assert!(Table::empty(&mut words).lookup(space, 0).is_ok());
 /// words.resize(table_words(MAX_MAPPINGS + 1), 0);
 /// let refused = Table::empty(&mut words).lookup(space, 0);
 /// assert_eq!(refused, Err(Refusal::BadTableLength));

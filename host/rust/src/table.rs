@@ -1,6 +1,7 @@
 //! A table of mappings in lent words.
 
-use crate::{ffi, Mapping, Operations, Refusal, Request, Space, Translation, View};
+use crate::{ffi, Mapping, Operations, Refusal, Request, Runs, Seen, Space, View};
+use core::ops::Range;
 
 /// The mappings of a space, in lent words, and their count.
 ///
@@ -9,7 +10,7 @@ use crate::{ffi, Mapping, Operations, Refusal, Request, Space, Translation, View
 /// breaks a rule.
 ///
 /// ```
-/// use waylluqen::{operation_list_words, table_words, Request, Space, Table};
+/// use waylluqen::{operation_list_words, table_words, Request, Shown, Space, Table};
 ///
 /// let space = Space::new(0, 0x1_0000);
 /// let mut words = [0; table_words(4)];
@@ -18,7 +19,7 @@ use crate::{ffi, Mapping, Operations, Refusal, Request, Space, Translation, View
 /// let _ = table.bind(space, Request::map(0, 0x3000, 7, 0), &mut list)?;
 /// let _ = table.bind(space, Request::unmap(0x1000, 0x1000), &mut list)?;
 /// assert_eq!(table.count(), 2);
-/// assert_eq!(table.lookup(space, 0x1000)?, None);
+/// assert_eq!(table.lookup(space, 0x1000)?.shown, Shown::Nothing);
 /// # Ok::<(), waylluqen::Refusal>(())
 /// ```
 #[derive(Debug)]
@@ -61,14 +62,15 @@ impl<'a> Table<'a> {
     /// The table by shared borrow.
     ///
     /// ```
-    /// use waylluqen::{Space, Table, Translation};
+    /// use waylluqen::{Shown, Space, Table};
     ///
     /// let mut words = [0x1000, 0x1000, 7, 0, 0x4000, 0x2000, 8, 0];
     /// let table = Table::with_count(&mut words, 2);
     /// let (one, other) = (table.view(), table.view());
     /// assert_eq!((one.count(), other.count()), (2, 2));
-    /// let shown = Translation { object: 8, offset: 0x1000 };
-    /// assert_eq!(one.lookup(Space::new(0, 0x1_0000), 0x5000), Ok(Some(shown)));
+    /// let seen = one.lookup(Space::new(0, 0x1_0000), 0x5000)?;
+    /// assert_eq!(seen.shown, Shown::Object { object: 8, offset: 0x1000 });
+    /// # Ok::<(), waylluqen::Refusal>(())
     /// ```
     #[inline]
     pub fn view(&self) -> View<'_> {
@@ -120,8 +122,8 @@ impl<'a> Table<'a> {
         self.view().mappings()
     }
 
-    /// Tells what the byte at `address` shows; `None` for one that is in no mapping, also outside
-    /// the space.
+    /// Tells what the byte at `address` shows, and how far that goes on. Any address will do, also
+    /// one outside the space.
     ///
     /// # Errors
     ///
@@ -129,19 +131,42 @@ impl<'a> Table<'a> {
     /// [`BadCount`](Refusal::BadCount) and [`BadMapping`](Refusal::BadMapping) that applies.
     ///
     /// ```
-    /// use waylluqen::{Refusal, Space, Table, Translation};
+    /// use waylluqen::{Refusal, Seen, Shown, Space, Table};
     ///
     /// let space = Space::new(0, 0x1_0000);
     /// let mut words = [0x1000, 0x2000, 7, 0x5000, 0, 0, 0, 0];
     /// let table = Table::with_count(&mut words, 1);
-    /// let shown = Translation { object: 7, offset: 0x6008 };
-    /// assert_eq!(table.lookup(space, 0x2008), Ok(Some(shown)));
-    /// assert_eq!(table.lookup(space, 0x3000), Ok(None));
+    /// let shown = Shown::Object { object: 7, offset: 0x6008 };
+    /// assert_eq!(table.lookup(space, 0x2008), Ok(Seen { shown, bytes: 0xff8 }));
+    /// assert_eq!(table.lookup(space, 0x3000), Ok(Seen { shown: Shown::Nothing, bytes: 0xd000 }));
     /// assert_eq!(table.lookup(Space::new(1, 2), 0x3000), Err(Refusal::BadSpace));
     /// ```
     #[inline]
-    pub fn lookup(&self, space: Space, address: u64) -> Result<Option<Translation>, Refusal> {
+    pub fn lookup(&self, space: Space, address: u64) -> Result<Seen, Refusal> {
         self.view().lookup(space, address)
+    }
+
+    /// Walks a range, one look-up a run; see [`View::runs`].
+    ///
+    /// ```
+    /// use waylluqen::{Shown, Space, Table};
+    ///
+    /// let space = Space::new(0, 0x1_0000);
+    /// let mut words = [0x1000, 0x2000, 7, 0, 0x8000, 0x1000, 8, 0];
+    /// let table = Table::with_count(&mut words, 2);
+    /// let mut free = 0;
+    /// for run in table.runs(space, 0x2000..0x9000) {
+    ///     let run = run?;
+    ///     if run.shown == Shown::Nothing {
+    ///         free += run.bytes;
+    ///     }
+    /// }
+    /// assert_eq!(free, 0x5000);
+    /// # Ok::<(), waylluqen::Refusal>(())
+    /// ```
+    #[inline]
+    pub fn runs(&self, space: Space, range: Range<u64>) -> Runs<'_> {
+        self.view().runs(space, range)
     }
 
     /// Maps or unmaps a range, and gives the operations for it, which it writes to the lent

@@ -1,23 +1,7 @@
 //! A table by shared borrow: all that can be asked of its words without a change.
 
-use crate::{ffi, Mapping, Refusal, Space, MAPPING_WORDS};
-
-/// The byte of an object that an address shows.
-///
-/// ```
-/// use waylluqen::{Space, Translation, View};
-///
-/// let view = View::new(&[0x1000, 0x2000, 7, 0x5000], 1);
-/// let shown = Translation { object: 7, offset: 0x6008 };
-/// assert_eq!(view.lookup(Space::new(0, 0x1_0000), 0x2008), Ok(Some(shown)));
-/// ```
-#[derive(Clone, Copy, Debug, PartialEq, Eq, Hash)]
-pub struct Translation {
-    /// The object, from 1 to [`MAX_OBJECT`](crate::MAX_OBJECT).
-    pub object: u64,
-    /// The byte's offset in it.
-    pub offset: u64,
-}
+use crate::{ffi, Mapping, Refusal, Runs, Seen, Space, MAPPING_WORDS};
+use core::ops::Range;
 
 /// The mappings of a space by shared borrow: the words and the count of a
 /// [`Table`](crate::Table), to look up in and to walk over.
@@ -27,7 +11,7 @@ pub struct Translation {
 ///
 /// ```
 /// use std::thread;
-/// use waylluqen::{Space, Table, Translation};
+/// use waylluqen::{Shown, Space, Table};
 ///
 /// let space = Space::new(0, 0x1_0000);
 /// let mut words = [0x1000, 0x1000, 7, 0, 0x4000, 0x2000, 8, 0];
@@ -38,8 +22,9 @@ pub struct Translation {
 ///     let other = scope.spawn(|| view.lookup(space, 0x5008));
 ///     (one.join().unwrap(), other.join().unwrap())
 /// });
-/// assert_eq!(found.0, Ok(Some(Translation { object: 7, offset: 8 })));
-/// assert_eq!(found.1, Ok(Some(Translation { object: 8, offset: 0x1008 })));
+/// assert_eq!(found.0?.shown, Shown::Object { object: 7, offset: 8 });
+/// assert_eq!(found.1?.shown, Shown::Object { object: 8, offset: 0x1008 });
+/// # Ok::<(), waylluqen::Refusal>(())
 /// ```
 #[derive(Clone, Copy, Debug)]
 pub struct View<'a> {
@@ -52,7 +37,7 @@ impl<'a> View<'a> {
     /// each look-up checks them.
     ///
     /// ```
-    /// use waylluqen::{Space, View};
+    /// use waylluqen::{Shown, Space, View};
     ///
     /// struct AddressSpace {
     ///     bounds: Space,
@@ -63,7 +48,8 @@ impl<'a> View<'a> {
     /// impl AddressSpace {
     ///     fn is_mapped(&self, address: u64) -> bool {
     ///         let view = View::new(&self.words, self.count);
-    ///         matches!(view.lookup(self.bounds, address), Ok(Some(_)))
+    ///         let seen = view.lookup(self.bounds, address);
+    ///         seen.is_ok_and(|seen| seen.shown != Shown::Nothing)
     ///     }
     /// }
     ///
@@ -127,8 +113,8 @@ impl<'a> View<'a> {
         words.filter_map(mapping)
     }
 
-    /// Tells what the byte at `address` shows; `None` for one that is in no mapping, also outside
-    /// the space.
+    /// Tells what the byte at `address` shows, and how far that goes on. Any address will do, also
+    /// one outside the space.
     ///
     /// # Errors
     ///
@@ -136,23 +122,47 @@ impl<'a> View<'a> {
     /// [`BadCount`](Refusal::BadCount) and [`BadMapping`](Refusal::BadMapping) that applies.
     ///
     /// ```
-    /// use waylluqen::{Refusal, Space, Translation, View};
+    /// use waylluqen::{Refusal, Seen, Shown, Space, View};
     ///
     /// let space = Space::new(0, 0x1_0000);
     /// let view = View::new(&[0x1000, 0x2000, 7, 0x5000, 0, 0, 0, 0], 1);
-    /// let shown = Translation { object: 7, offset: 0x6008 };
-    /// assert_eq!(view.lookup(space, 0x2008), Ok(Some(shown)));
-    /// assert_eq!(view.lookup(space, 0x3000), Ok(None));
+    /// let shown = Shown::Object { object: 7, offset: 0x6008 };
+    /// assert_eq!(view.lookup(space, 0x2008), Ok(Seen { shown, bytes: 0xff8 }));
+    /// assert_eq!(view.lookup(space, 0x3000), Ok(Seen { shown: Shown::Nothing, bytes: 0xd000 }));
     /// assert_eq!(view.lookup(Space::new(1, 2), 0x3000), Err(Refusal::BadSpace));
     /// ```
     #[inline]
-    pub fn lookup(self, space: Space, address: u64) -> Result<Option<Translation>, Refusal> {
+    pub fn lookup(self, space: Space, address: u64) -> Result<Seen, Refusal> {
         let answer = ffi::lookup(space, self.words, self.count, address);
         Refusal::check(answer.refusal, answer.place)?;
-        let shown = Translation {
-            object: answer.object,
-            offset: answer.offset,
-        };
-        Ok((answer.mapped != 0).then_some(shown))
+        Ok(Seen::read(answer))
+    }
+
+    /// Walks a range by what look-ups tell of how far an answer goes on: one look-up a run, each of
+    /// which checks the table. The last run is cut at the range's end.
+    ///
+    /// The walk ends at the space's end, so that a range that starts outside has no run, also where
+    /// it goes on inside. An empty range has none either, and nothing is looked up. A look-up that
+    /// is refused is the last: what [`lookup`](View::lookup) is refused for.
+    ///
+    /// ```
+    /// use waylluqen::{Run, Shown, Space, View};
+    ///
+    /// let space = Space::new(0, 0x8000);
+    /// // Two that touch stay two, though the second goes on with the first one's object.
+    /// let view = View::new(&[0x1000, 0x2000, 7, 0, 0x3000, 0x1000, 7, 0x2000], 2);
+    /// let runs: Vec<Run> = view.runs(space, 0x2000..0x1_0000).collect::<Result<_, _>>()?;
+    /// let object = |offset| Shown::Object { object: 7, offset };
+    /// let expected = [
+    ///     Run { address: 0x2000, bytes: 0x1000, shown: object(0x1000) },
+    ///     Run { address: 0x3000, bytes: 0x1000, shown: object(0x2000) },
+    ///     Run { address: 0x4000, bytes: 0x4000, shown: Shown::Nothing },
+    /// ];
+    /// assert_eq!(runs, expected);
+    /// # Ok::<(), waylluqen::Refusal>(())
+    /// ```
+    #[inline]
+    pub const fn runs(self, space: Space, range: Range<u64>) -> Runs<'a> {
+        Runs::new(self, space, range)
     }
 }
