@@ -42,13 +42,19 @@ struct table {
     uint64_t words[WAYLLUQEN_TABLE_WORDS(CAPACITY)], count;
 };
 
+/* How many page entries were written from look-ups, and from how many. */
+struct from_look_ups {
+    uint64_t entries, look_ups;
+};
+
 /* All that a driver keeps for one address space: 64-bit words, with no gap between them. */
 struct address_space {
     waylluqen_space bounds;
     struct table table;
     uint64_t operations[WAYLLUQEN_OPERATION_LIST_WORDS(CAPACITY)];
     struct page_table pages;
-    uint64_t compared; /* how often the pages were compared with look-ups */
+    struct from_look_ups went_back; /* by the last going back */
+    uint64_t compared;              /* how often the pages were compared with look-ups */
 };
 
 /* Addresses of whole pages, [start, end). */
@@ -220,6 +226,37 @@ static waylluqen_translation look_up(const struct address_space *space, uint64_t
                             space->table.count, address);
 }
 
+/* What is shown so many bytes further on in a run. */
+static struct entry entry_in(waylluqen_translation run, uint64_t bytes)
+{
+    struct entry entry = {0, 0};
+    if (run.shown == WAYLLUQEN_SHOWN_OBJECT) {
+        entry = (struct entry){run.object, run.offset + bytes};
+    }
+    return entry;
+}
+
+/* Writes the entries of a range from look-ups: one answers for all pages that go on in the same
+ * way, so that a large mapping takes no more of them than a small one. */
+static struct from_look_ups write_shown(struct address_space *space, struct range range)
+{
+    waylluqen_translation run;
+    struct from_look_ups written = {0};
+    for (uint64_t start = range.start; start < range.end; start += run.bytes) {
+        run = look_up(space, start);
+        written.look_ups++;
+        if (run.bytes == 0) {
+            fail("a look-up is refused, or outside the space, at", start);
+        }
+        /* The last run may go on behind the range. */
+        for (uint64_t at = start; at < start + run.bytes && at < range.end; at += PAGE) {
+            *entry_of(&space->pages, at) = entry_in(run, at - start);
+            written.entries++;
+        }
+    }
+    return written;
+}
+
 /* Takes back what failed half-way: the table by its copy, and the entries by look-ups in it. Only
  * pages of the asked range can have changed; one that was kept gets the entry that it has. No
  * memory is needed for what was there before, if the page table gives none back until all is
@@ -227,11 +264,7 @@ static waylluqen_translation look_up(const struct address_space *space, uint64_t
 static void go_back(struct address_space *space, const struct table *before, struct range asked)
 {
     space->table = *before;
-    for (uint64_t at = asked.start; at < asked.end; at += PAGE) {
-        /* Not refused, since the bind took this table; zeros where nothing is mapped. */
-        waylluqen_translation shown = look_up(space, at);
-        *entry_of(&space->pages, at) = (struct entry){shown.object, shown.offset};
-    }
+    space->went_back = write_shown(space, asked); /* not refused, since the bind took this table */
 }
 
 /* Carries a grant's operations out in order, or goes back. Either way a driver then flushes the
@@ -302,9 +335,9 @@ static void compare(struct address_space *space)
     for (uint64_t i = 0; i < 2 * PAGES; i++) {
         uint64_t byte = i % 2 * (PAGE - 1), address = START + i / 2 * PAGE + byte;
         struct entry entry = *entry_of(&space->pages, address);
-        waylluqen_translation shown = look_up(space, address);
-        if (shown.refusal != WAYLLUQEN_OK || shown.object != entry.object ||
-            shown.offset != (entry.object != 0 ? entry.offset + byte : 0)) {
+        waylluqen_translation seen = look_up(space, address);
+        if (seen.refusal != WAYLLUQEN_OK || seen.object != entry.object ||
+            seen.offset != (entry.object != 0 ? entry.offset + byte : 0)) {
             fail("the page entry is not what a look-up says at", address);
         }
     }
@@ -423,6 +456,8 @@ static void fail_half_way(struct address_space *space, bool by_record, waylluqen
     }
     printf("  failed half-way first, after 0 to %" PRIu64 " page entries: went back each time\n",
            failed - 1);
+    printf("  going back: %" PRIu64 " page entries written from %" PRIu64 " look-ups\n",
+           space->went_back.entries, space->went_back.look_ups);
     space->pages.memory = PLENTY;
 }
 
@@ -472,12 +507,14 @@ int main(void)
     ask_without_memory(&space);
     print_space(&space);
     for (size_t i = 0; i < LENGTH(addresses); i++) {
-        waylluqen_translation shown = look_up(&space, addresses[i]);
-        if (shown.mapped) {
-            printf(HEX " shows %s+" HEX "\n", addresses[i], name_of(shown.object), shown.offset);
+        waylluqen_translation seen = look_up(&space, addresses[i]);
+        printf(HEX " shows ", addresses[i]);
+        if (seen.shown == WAYLLUQEN_SHOWN_OBJECT) {
+            printf("%s+" HEX, name_of(seen.object), seen.offset);
         } else {
-            printf(HEX " shows nothing\n", addresses[i]);
+            printf("nothing");
         }
+        printf(" up to " HEX "\n", addresses[i] + seen.bytes);
     }
     printf("all %d pages agreed with look-ups after each of %" PRIu64 " requests\n", PAGES,
            space.compared);

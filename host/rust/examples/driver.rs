@@ -11,7 +11,7 @@ use std::fmt;
 use std::ops::Range;
 use std::process::ExitCode;
 use waylluqen::{operation_list_words, table_words, Mapping, Operation, Operations, Refusal};
-use waylluqen::{Request, Rests, Space, Table, Translation, View};
+use waylluqen::{Request, Rests, Seen, Shown, Space, Table, View};
 use waylluqen::{PAGE_SIZE as PAGE, RECORD_BYTES};
 
 const START: u64 = 0x10_0000;
@@ -25,13 +25,11 @@ const FRAMEBUFFER: u64 = 1;
 const TEXTURE: u64 = 2;
 const RING: u64 = 3;
 
-/// What a page's first byte shows, if that is something.
-type Entry = Option<Translation>;
-
 /// Stands for the page table that the GPU reads.
 #[derive(Clone, PartialEq)]
 struct PageTable {
-    entries: [Entry; PAGES],
+    /// What each page's first byte shows.
+    entries: [Shown; PAGES],
     /// How many entries can be changed until one can't be; a simulation.
     memory: u64,
 }
@@ -43,6 +41,13 @@ struct Stored {
     count: u64,
 }
 
+/// How many page entries were written from look-ups, and from how many.
+#[derive(Clone, Copy, Default, PartialEq)]
+struct FromLookUps {
+    entries: u64,
+    look_ups: u64,
+}
+
 /// All that a driver keeps for one address space.
 #[derive(Clone, PartialEq)]
 struct AddressSpace {
@@ -50,6 +55,8 @@ struct AddressSpace {
     table: Stored,
     operations: [u64; LIST_WORDS],
     pages: PageTable,
+    /// By the last going back.
+    went_back: FromLookUps,
     /// How often the pages were compared with look-ups.
     compared: u64,
 }
@@ -150,14 +157,25 @@ fn each_page(range: Range<u64>) -> impl Iterator<Item = u64> {
     range.step_by(PAGE as usize)
 }
 
+/// What is shown so many bytes further on, where it goes on in the same way.
+fn further(shown: Shown, bytes: u64) -> Shown {
+    match shown {
+        Shown::Nothing => Shown::Nothing,
+        Shown::Object { object, offset } => Shown::Object {
+            object,
+            offset: offset + bytes,
+        },
+    }
+}
+
 impl PageTable {
-    fn entry(&mut self, address: u64) -> &mut Entry {
+    fn entry(&mut self, address: u64) -> &mut Shown {
         &mut self.entries[((address - START) / PAGE) as usize]
     }
 
     /// Where there was no memory there is some for the next one, so that passing over a failure
     /// shows.
-    fn change(&mut self, address: u64, entry: Entry) -> Result<(), NoMemory> {
+    fn change(&mut self, address: u64, entry: Shown) -> Result<(), NoMemory> {
         let memory = self.memory;
         self.memory = memory.wrapping_sub(1);
         if memory == 0 {
@@ -174,7 +192,7 @@ impl PageTable {
             return Ok(());
         }
         for at in each_page(old) {
-            self.change(at, None)?;
+            self.change(at, Shown::Nothing)?;
             counts.cleared += 1;
         }
         Ok(())
@@ -189,7 +207,7 @@ impl PageTable {
     ) -> Result<(), NoMemory> {
         for at in each_page(part) {
             let (object, offset) = (new.object, new.offset + (at - new.address));
-            self.change(at, Some(Translation { object, offset }))?;
+            self.change(at, Shown::Object { object, offset })?;
             counts.written += 1;
         }
         Ok(())
@@ -278,25 +296,35 @@ impl AddressSpace {
     /// is carried out. Then a driver flushes the TLB here too.
     fn go_back(&mut self, before: Stored, asked: Range<u64>) -> Failure {
         self.table = before;
-        for at in each_page(asked) {
-            let shown = self.look_up(at).expect("the bind took this table");
-            *self.pages.entry(at) = shown;
-        }
+        let written = self.write_shown(asked);
+        self.went_back = written.expect("the bind took this table");
         Failure::WentBack
     }
 
-    fn look_up(&self, address: u64) -> Result<Option<Translation>, Refusal> {
+    /// Writes the entries of a range from look-ups: one answers for all pages that go on in the
+    /// same way, so that a large mapping takes no more of them than a small one.
+    fn write_shown(&mut self, range: Range<u64>) -> Result<FromLookUps, Refusal> {
+        let mut written = FromLookUps::default();
+        for run in self.table.view().runs(self.bounds, range) {
+            let run = run?;
+            written.look_ups += 1;
+            for at in each_page(run.address..run.address + run.bytes) {
+                *self.pages.entry(at) = further(run.shown, at - run.address);
+                written.entries += 1;
+            }
+        }
+        Ok(written)
+    }
+
+    fn look_up(&self, address: u64) -> Result<Seen, Refusal> {
         self.table.view().lookup(self.bounds, address)
     }
 
     /// Compares each page entry with look-ups of the page's first and last byte.
     fn compare(&mut self) -> Result<(), Box<dyn Error>> {
         for address in (0..2 * PAGES as u64).map(|i| START + i / 2 * PAGE + i % 2 * (PAGE - 1)) {
-            let mut expected = *self.pages.entry(address);
-            if let Some(shown) = &mut expected {
-                shown.offset += address % PAGE;
-            }
-            if self.look_up(address)? != expected {
+            let expected = further(*self.pages.entry(address), address % PAGE);
+            if self.look_up(address)?.shown != expected {
                 let why = "the page entry is not what a look-up says at";
                 return Err(format!("{why} {address:#x}").into());
             }
@@ -432,6 +460,8 @@ fn fail_half_way(
         .checked_sub(1)
         .ok_or("a request did not fail half-way")?;
     println!("  failed half-way first, after 0 to {last} page entries: went back each time");
+    let FromLookUps { entries, look_ups } = space.went_back;
+    println!("  going back: {entries} page entries written from {look_ups} look-ups");
     space.pages.memory = PLENTY;
     Ok(())
 }
@@ -466,9 +496,10 @@ fn run() -> Result<(), Box<dyn Error>> {
         },
         operations: [0; LIST_WORDS],
         pages: PageTable {
-            entries: [None; PAGES],
+            entries: [Shown::Nothing; PAGES],
             memory: PLENTY,
         },
+        went_back: FromLookUps::default(),
         compared: 0,
     };
     ask(&mut space)?;
@@ -477,12 +508,13 @@ fn run() -> Result<(), Box<dyn Error>> {
     ask_without_memory(&mut space)?;
     space.print();
     for address in [0x10_0fff, 0x10_2010, 0x10_5000, 0x10_8000] {
-        match space.look_up(address)? {
-            Some(Translation { object, offset }) => {
-                println!("{address:#x} shows {}+{offset:#x}", name_of(object));
-            }
-            None => println!("{address:#x} shows nothing"),
+        let seen = space.look_up(address)?;
+        print!("{address:#x} shows ");
+        match seen.shown {
+            Shown::Nothing => print!("nothing"),
+            Shown::Object { object, offset } => print!("{}+{offset:#x}", name_of(object)),
         }
+        println!(" up to {:#x}", address + seen.bytes);
     }
     let requests = space.compared;
     println!("all {PAGES} pages agreed with look-ups after each of {requests} requests");
