@@ -21,8 +21,9 @@ const WORDS: [u64; 20] = [
 const VIEW: View<'_> = View::new(&WORDS, 5);
 const ALL: Range<u64> = 0x10_0000..0x20_0000;
 
+/// No more than a walk should have, so that one without an end fails too.
 fn runs(view: View<'_>, space: Space, range: Range<u64>) -> Vec<Run> {
-    let runs: Result<_, _> = view.runs(space, range).collect();
+    let runs: Result<_, _> = view.runs(space, range).take(WORDS.len()).collect();
     runs.expect("the table keeps its rules")
 }
 
@@ -96,8 +97,11 @@ fn a_range_cuts_its_first_run_and_its_last() {
     // Both ends are in one run.
     let expected = [object(0x19_1008, 0x10, 9, 0x2008)];
     assert_eq!(runs(VIEW, SPACE, 0x19_1008..0x19_1018), expected);
-    let reserved = nothing(0x14_0000, 0x4_0000);
-    assert_eq!(runs(VIEW, SPACE, 0x14_0000..0x18_0000), [reserved]);
+    // From before the reservation and from inside it to behind it.
+    let reserved = nothing(0x13_f000, 0x4_2000);
+    assert_eq!(runs(VIEW, SPACE, 0x13_f000..0x18_1000), [reserved]);
+    let reserved = nothing(0x14_0000, 0x4_1000);
+    assert_eq!(runs(VIEW, SPACE, 0x14_0000..0x18_1000), [reserved]);
 }
 
 #[test]
