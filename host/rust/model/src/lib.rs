@@ -25,7 +25,7 @@ pub mod write;
 pub use answer::Refused;
 pub use bind::{bind, bind_record, Grant, Operation, OPERATION_WORDS};
 pub use extent::Extent;
-pub use lookup::{lookup, Translation};
+pub use lookup::{lookup, Seen, Shown};
 pub use mapping::{mapping_holds, Mapping, HIGHEST_OBJECT, MAPPING_WORDS};
 pub use pages::{Page, Pages};
 pub use replay::replay;

@@ -57,6 +57,14 @@ impl Pages {
         }
     }
 
+    /// The bytes of the pages from this one on that are its owner's, or nobody's as it is.
+    pub fn bytes_from(&self, page: usize) -> u64 {
+        let owner = |page: &Option<Page>| page.map(|page| page.owner);
+        let alike = |other: &&Option<Page>| owner(other) == owner(&self.pages[page]);
+        let run = self.pages[page..].iter().take_while(alike);
+        run.count() as u64 * PAGE
+    }
+
     /// One mapping for each run of pages of one owner.
     pub fn mappings(&self) -> Vec<Mapping> {
         let mut runs: Vec<(Option<usize>, Mapping)> = Vec::new();

@@ -3,7 +3,7 @@
 use crate::bind::{least_operation_words, KIND_MAP, KIND_REMAP};
 use crate::request::number;
 use crate::{answer, bind_record, lookup, space_holds};
-use crate::{Grant, Mapping, Operation, Refused, Space, Translation, MAPPING_WORDS, RECORD_BYTES};
+use crate::{Grant, Mapping, Operation, Refused, Seen, Shown, Space, MAPPING_WORDS, RECORD_BYTES};
 use alloc::string::String;
 use core::fmt::{Arguments, Write};
 
@@ -159,11 +159,17 @@ impl Program {
     fn take_lookup(&mut self, record: &[u8]) {
         let address = number(record);
         match lookup(&self.space, &self.table, self.count, address) {
-            Ok(Some(Translation { object, offset })) => {
-                self.print(format_args!("at {address} {object} {offset}"));
-            }
-            Ok(None) => self.print(format_args!("at {address} none")),
+            Ok(seen) => self.print_seen(address, seen),
             Err(refused) => self.print_refusal(refused),
+        }
+    }
+
+    fn print_seen(&mut self, address: u64, Seen { shown, bytes }: Seen) {
+        match shown {
+            Shown::Nothing => self.print(format_args!("at {address} none {bytes}")),
+            Shown::Object { object, offset } => {
+                self.print(format_args!("at {address} {object} {offset} {bytes}"));
+            }
         }
     }
 }

@@ -1,8 +1,8 @@
 //! The model's answers to the drawings, worked out by hand, in pages.
 
 use waylluqen_model::{
-    bind, replay, Mapping, Pages, Refused, Request, Space, MAP, MAPPING_WORDS, OPERATION_WORDS,
-    PAGE, UNMAP,
+    bind, lookup, replay, Mapping, Pages, Refused, Request, Space, MAP, MAPPING_WORDS,
+    OPERATION_WORDS, PAGE, UNMAP,
 };
 
 /// 16 pages, nothing reserved.
@@ -72,7 +72,20 @@ fn ask(old: &[Drawn], capacity: usize, request: &Request) -> Result<(Vec<u64>, V
     let mut pages = Pages::new(&SPACE, &mappings);
     pages.ask(request);
     assert_eq!(pages.mappings(), grant.mappings);
+    assert_runs(&pages, &grant.mappings);
     Ok((words, grant.mappings))
+}
+
+/// From each page on, as much is alike by a look-up as by the pages.
+fn assert_runs(pages: &Pages, mappings: &[Mapping]) {
+    let mut table: Vec<u64> = mappings.iter().flat_map(Mapping::words).collect();
+    table.extend([0; MAPPING_WORDS]);
+    for page in 0..pages.pages.len() {
+        let address = pages.start + page as u64 * PAGE;
+        let seen = lookup(&SPACE, &table, mappings.len() as u64, address);
+        let bytes = seen.map(|seen| seen.bytes);
+        assert_eq!(bytes, Ok(pages.bytes_from(page)), "{address:#x}");
+    }
 }
 
 fn line_words(([kind, keep], mappings): &Line) -> Vec<u64> {

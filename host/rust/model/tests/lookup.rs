@@ -1,6 +1,6 @@
 //! The model's look-ups in tables that were worked out by hand.
 
-use waylluqen_model::{lookup, Refused, Space, Translation, PAGE};
+use waylluqen_model::{lookup, Refused, Seen, Shown, Space, PAGE};
 
 const LIMIT: u64 = 1 << 48;
 const LAST_PAGE: u64 = u64::MAX - PAGE + 1;
@@ -33,13 +33,23 @@ const FIVE: [Words; 5] = [
     [0x1f_f000, 0x1000, 9, LIMIT - PAGE],
 ];
 
-type Answer = Result<Option<Translation>, Refused>;
+type Answer = Result<Seen, Refused>;
 
-fn shows(object: u64, offset: u64) -> Answer {
-    Ok(Some(Translation { object, offset }))
+/// A byte of an object, which goes on for so many bytes.
+fn shows(object: u64, offset: u64, bytes: u64) -> Answer {
+    let shown = Shown::Object { object, offset };
+    Ok(Seen { shown, bytes })
 }
 
-const NOTHING: Answer = Ok(None);
+fn nothing(bytes: u64) -> Answer {
+    let shown = Shown::Nothing;
+    Ok(Seen { shown, bytes })
+}
+
+const OUTSIDE: Answer = Ok(Seen {
+    shown: Shown::Nothing,
+    bytes: 0,
+});
 
 fn refused(number: u32) -> Answer {
     Err(Refused { number, place: 0 })
@@ -67,51 +77,108 @@ fn pair(first: [u64; 2], second: [u64; 2]) -> Answer {
 
 #[test]
 fn bytes_of_a_mapping() {
-    assert_eq!(look(&COMMON, &FIVE, 0x10_0000), shows(7, 0x3000));
-    assert_eq!(look(&COMMON, &FIVE, 0x10_0001), shows(7, 0x3001));
-    assert_eq!(look(&COMMON, &FIVE, 0x10_1fff), shows(7, 0x4fff));
-    assert_eq!(look(&COMMON, &FIVE, 0x1f_f000), shows(9, LIMIT - PAGE));
-    assert_eq!(look(&COMMON, &FIVE, 0x1f_ffff), shows(9, LIMIT - 1));
+    assert_eq!(look(&COMMON, &FIVE, 0x10_0000), shows(7, 0x3000, 0x2000));
+    assert_eq!(look(&COMMON, &FIVE, 0x10_0001), shows(7, 0x3001, 0x1fff));
+    assert_eq!(look(&COMMON, &FIVE, 0x10_0fff), shows(7, 0x3fff, 0x1001));
+    assert_eq!(look(&COMMON, &FIVE, 0x10_1000), shows(7, 0x4000, 0x1000));
+    assert_eq!(look(&COMMON, &FIVE, 0x10_1fff), shows(7, 0x4fff, 1));
+    let last = LIMIT - PAGE;
+    assert_eq!(look(&COMMON, &FIVE, 0x1f_f000), shows(9, last, 0x1000));
+    assert_eq!(look(&COMMON, &FIVE, 0x1f_ffff), shows(9, LIMIT - 1, 1));
 }
 
 #[test]
 fn neighbours_that_touch() {
-    assert_eq!(look(&COMMON, &FIVE, 0x10_1fff), shows(7, 0x4fff));
-    assert_eq!(look(&COMMON, &FIVE, 0x10_2000), shows(8, 0));
-    assert_eq!(look(&COMMON, &FIVE, 0x10_2fff), shows(8, 0xfff));
-    assert_eq!(look(&COMMON, &FIVE, 0x10_3000), NOTHING);
+    assert_eq!(look(&COMMON, &FIVE, 0x10_1fff), shows(7, 0x4fff, 1));
+    assert_eq!(look(&COMMON, &FIVE, 0x10_2000), shows(8, 0, 0x1000));
+    assert_eq!(look(&COMMON, &FIVE, 0x10_2fff), shows(8, 0xfff, 1));
+    assert_eq!(look(&COMMON, &FIVE, 0x10_3000), nothing(0x3_c000));
+}
+
+/// One mapping's part ends where the next one's starts, and they are two all the same.
+#[test]
+fn neighbours_that_go_on() {
+    let two = [
+        [0x10_0000, 0x2000, 7, 0x3000],
+        [0x10_2000, 0x1000, 7, 0x5000],
+    ];
+    assert_eq!(look(&COMMON, &two, 0x10_0000), shows(7, 0x3000, 0x2000));
+    assert_eq!(look(&COMMON, &two, 0x10_1fff), shows(7, 0x4fff, 1));
+    assert_eq!(look(&COMMON, &two, 0x10_2000), shows(7, 0x5000, 0x1000));
+    // From one page to the next, as if nothing were between them.
+    let apart = [[0x10_0000, 0x1000, 7, 0], [0x10_2000, 0x1000, 7, 0x2000]];
+    assert_eq!(look(&COMMON, &apart, 0x10_0800), shows(7, 0x800, 0x800));
+    assert_eq!(look(&COMMON, &apart, 0x10_1000), nothing(0x1000));
+    assert_eq!(look(&COMMON, &apart, 0x10_1fff), nothing(1));
 }
 
 #[test]
 fn beside_and_in_the_reservation() {
-    assert_eq!(look(&COMMON, &FIVE, 0x13_efff), NOTHING);
-    assert_eq!(look(&COMMON, &FIVE, 0x13_f000), shows(0xffff_ffff, 0x1000));
-    assert_eq!(look(&COMMON, &FIVE, 0x13_ffff), shows(0xffff_ffff, 0x1fff));
-    assert_eq!(look(&COMMON, &FIVE, 0x14_0000), NOTHING);
-    assert_eq!(look(&COMMON, &FIVE, 0x17_ffff), NOTHING);
-    assert_eq!(look(&COMMON, &FIVE, 0x18_0000), shows(1, 0x5000));
+    let highest = 0xffff_ffff;
+    assert_eq!(look(&COMMON, &FIVE, 0x13_efff), nothing(1));
+    assert_eq!(
+        look(&COMMON, &FIVE, 0x13_f000),
+        shows(highest, 0x1000, PAGE)
+    );
+    assert_eq!(look(&COMMON, &FIVE, 0x13_ffff), shows(highest, 0x1fff, 1));
+    assert_eq!(look(&COMMON, &FIVE, 0x14_0000), nothing(0x4_0000));
+    assert_eq!(look(&COMMON, &FIVE, 0x17_ffff), nothing(1));
+    assert_eq!(look(&COMMON, &FIVE, 0x18_0000), shows(1, 0x5000, 0x1000));
+}
+
+/// The reservation shows nothing, as what is before it and behind it does.
+#[test]
+fn nothing_goes_on_over_the_reservation() {
+    let ends = [FIVE[0], FIVE[4]];
+    assert_eq!(look(&COMMON, &ends, 0x10_2000), nothing(0xf_d000));
+    assert_eq!(look(&COMMON, &ends, 0x13_ffff), nothing(0xb_f001));
+    assert_eq!(look(&COMMON, &ends, 0x14_0000), nothing(0xb_f000));
+    assert_eq!(look(&COMMON, &ends, 0x17_ffff), nothing(0x7_f001));
+    assert_eq!(look(&COMMON, &ends, 0x18_0000), nothing(0x7_f000));
+    // A mapping beside it ends with itself.
+    let beside = [FIVE[2]];
+    assert_eq!(
+        look(&COMMON, &beside, 0x13_ffff),
+        shows(FIVE[2][2], 0x1fff, 1)
+    );
+    assert_eq!(look(&COMMON, &beside, 0x14_0000), nothing(0xc_0000));
+}
+
+/// Without one behind it, nothing goes on to the space's end; before the first, to that one.
+#[test]
+fn nothing_before_and_behind_all() {
+    let second = [FIVE[1]];
+    assert_eq!(look(&COMMON, &second, 0x10_0000), nothing(0x2000));
+    assert_eq!(look(&COMMON, &second, 0x10_1fff), nothing(1));
+    assert_eq!(look(&COMMON, &second, 0x10_3000), nothing(0xf_d000));
+    assert_eq!(look(&COMMON, &second, 0x1f_ffff), nothing(1));
+    assert_eq!(look(&COMMON, &second, 0x20_0000), OUTSIDE);
 }
 
 #[test]
 fn outside_the_space() {
-    assert_eq!(look(&COMMON, &FIVE, 0), NOTHING);
-    assert_eq!(look(&COMMON, &FIVE, 0xf_ffff), NOTHING);
-    assert_eq!(look(&COMMON, &FIVE, 0x20_0000), NOTHING);
-    assert_eq!(look(&COMMON, &FIVE, LIMIT), NOTHING);
+    assert_eq!(look(&COMMON, &FIVE, 0), OUTSIDE);
+    assert_eq!(look(&COMMON, &FIVE, 0xf_ffff), OUTSIDE);
+    assert_eq!(look(&COMMON, &FIVE, 0x20_0000), OUTSIDE);
+    assert_eq!(look(&COMMON, &FIVE, 0x20_0001), OUTSIDE);
+    assert_eq!(look(&COMMON, &FIVE, LIMIT), OUTSIDE);
     // The lower 48 and 63 bits alone would be in the first mapping.
-    assert_eq!(look(&COMMON, &FIVE, LIMIT + 0x10_0000), NOTHING);
-    assert_eq!(look(&COMMON, &FIVE, (1 << 63) + 0x10_0000), NOTHING);
-    assert_eq!(look(&COMMON, &FIVE, u64::MAX), NOTHING);
+    assert_eq!(look(&COMMON, &FIVE, LIMIT + 0x10_0000), OUTSIDE);
+    assert_eq!(look(&COMMON, &FIVE, (1 << 63) + 0x10_0000), OUTSIDE);
+    assert_eq!(look(&COMMON, &FIVE, u64::MAX), OUTSIDE);
 }
 
 #[test]
 fn the_widest_space() {
     let whole = [[0, LIMIT, 7, 0]];
-    assert_eq!(look(&WIDEST, &whole, 0), shows(7, 0));
-    assert_eq!(look(&WIDEST, &whole, LIMIT - 1), shows(7, LIMIT - 1));
-    assert_eq!(look(&WIDEST, &whole, LIMIT), NOTHING);
-    assert_eq!(look(&WIDEST, &whole, u64::MAX), NOTHING);
+    assert_eq!(look(&WIDEST, &whole, 0), shows(7, 0, LIMIT));
+    assert_eq!(look(&WIDEST, &whole, LIMIT - 1), shows(7, LIMIT - 1, 1));
+    assert_eq!(look(&WIDEST, &whole, LIMIT), OUTSIDE);
+    assert_eq!(look(&WIDEST, &whole, u64::MAX), OUTSIDE);
     assert_eq!(look(&WIDEST, &[[0, LIMIT + PAGE, 7, 0]], 0), bad_mapping(0));
+    assert_eq!(lookup(&WIDEST, &[0; 4], 0, 0), nothing(LIMIT));
+    assert_eq!(lookup(&WIDEST, &[0; 4], 0, LIMIT - 1), nothing(1));
+    assert_eq!(lookup(&WIDEST, &[0; 4], 0, LIMIT), OUTSIDE);
 }
 
 #[test]
@@ -140,7 +207,7 @@ fn lengths() {
         assert_eq!(counted, refused(2), "{bad}");
     }
     for good in [4, 8, 12, 2044, 2048, 2052, 16_380, 16_384] {
-        assert_eq!(lookup(&COMMON, &zeros[..good], 0, 0), NOTHING, "{good}");
+        assert_eq!(lookup(&COMMON, &zeros[..good], 0, 0), OUTSIDE, "{good}");
     }
 }
 
@@ -148,7 +215,8 @@ fn lengths() {
 fn counts() {
     let words = FIVE.concat();
     let last = 0x1f_f000;
-    assert_eq!(lookup(&COMMON, &words, 5, last), shows(9, LIMIT - PAGE));
+    let page = shows(9, LIMIT - PAGE, PAGE);
+    assert_eq!(lookup(&COMMON, &words, 5, last), page);
     // Six, as many as there are words, and what 32 bits or four words each would make 5 of.
     for count in [6, 20, (1 << 32) + 5, (1 << 62) + 5, u64::MAX] {
         assert_eq!(lookup(&COMMON, &words, count, last), refused(4), "{count}");
@@ -161,18 +229,22 @@ fn counts() {
 #[test]
 fn words_behind_the_count() {
     let words = FIVE.concat();
-    assert_eq!(lookup(&COMMON, &words, 4, 0x1f_f000), NOTHING);
-    assert_eq!(lookup(&COMMON, &words, 0, 0x10_0000), NOTHING);
+    assert_eq!(lookup(&COMMON, &words, 4, 0x1f_f000), nothing(0x1000));
+    // No mapping that stands behind the count ends a gap.
+    assert_eq!(lookup(&COMMON, &words, 4, 0x18_1000), nothing(0x7_f000));
+    assert_eq!(lookup(&COMMON, &words, 2, 0x10_3000), nothing(0xf_d000));
+    assert_eq!(lookup(&COMMON, &words, 0, 0x10_0000), nothing(0x10_0000));
     let mut damaged = words;
     damaged[4..].fill(u64::MAX);
-    assert_eq!(lookup(&COMMON, &damaged, 0, 0x10_0000), NOTHING);
-    assert_eq!(lookup(&COMMON, &damaged, 1, 0x10_0000), shows(7, 0x3000));
+    assert_eq!(lookup(&COMMON, &damaged, 0, 0x10_0000), nothing(0x10_0000));
+    let first = shows(7, 0x3000, 0x2000);
+    assert_eq!(lookup(&COMMON, &damaged, 1, 0x10_0000), first);
     assert_eq!(lookup(&COMMON, &damaged, 2, 0x10_0000), bad_mapping(1));
 }
 
 #[test]
 fn multiples_of_a_page() {
-    assert_eq!(alone(0x10_0000, PAGE, 7, PAGE), shows(7, PAGE));
+    assert_eq!(alone(0x10_0000, PAGE, 7, PAGE), shows(7, PAGE, PAGE));
     assert_eq!(alone(0x10_0001, PAGE, 7, 0), bad_mapping(0));
     assert_eq!(alone(0x10_0800, PAGE, 7, 0), bad_mapping(0));
     assert_eq!(alone(0x10_0000, PAGE + 1, 7, 0), bad_mapping(0));
@@ -185,9 +257,9 @@ fn multiples_of_a_page() {
 #[test]
 fn objects() {
     assert_eq!(alone(0x10_0000, PAGE, 0, 0), bad_mapping(0));
-    assert_eq!(alone(0x10_0000, PAGE, 1, 0), shows(1, 0));
+    assert_eq!(alone(0x10_0000, PAGE, 1, 0), shows(1, 0, PAGE));
     let highest = 0xffff_ffff;
-    assert_eq!(alone(0x10_0000, PAGE, highest, 0), shows(highest, 0));
+    assert_eq!(alone(0x10_0000, PAGE, highest, 0), shows(highest, 0, PAGE));
     assert_eq!(alone(0x10_0000, PAGE, 1 << 32, 0), bad_mapping(0));
     assert_eq!(alone(0x10_0000, PAGE, (1 << 32) + 7, 0), bad_mapping(0));
     assert_eq!(alone(0x10_0000, PAGE, u64::MAX, 0), bad_mapping(0));
@@ -196,7 +268,7 @@ fn objects() {
 #[test]
 fn offsets() {
     let highest = LIMIT - PAGE;
-    assert_eq!(alone(0x10_0000, PAGE, 7, highest), shows(7, highest));
+    assert_eq!(alone(0x10_0000, PAGE, 7, highest), shows(7, highest, PAGE));
     assert_eq!(alone(0x10_0000, 2 * PAGE, 7, highest), bad_mapping(0));
     assert_eq!(alone(0x10_0000, PAGE, 7, LIMIT), bad_mapping(0));
     // The sums are 2^64 and above.
@@ -208,7 +280,7 @@ fn offsets() {
 fn inside_the_space() {
     assert_eq!(alone(0xf_f000, PAGE, 7, 0), bad_mapping(0));
     assert_eq!(alone(0xf_f000, 2 * PAGE, 7, 0), bad_mapping(0));
-    assert_eq!(alone(0x1f_f000, PAGE, 7, 0), shows(7, 0));
+    assert_eq!(alone(0x1f_f000, PAGE, 7, 0), shows(7, 0, PAGE));
     assert_eq!(alone(0x1f_f000, 2 * PAGE, 7, 0), bad_mapping(0));
     assert_eq!(alone(0x20_0000, PAGE, 7, 0), bad_mapping(0));
     // The ends are 2^64 and above.
@@ -223,13 +295,13 @@ fn inside_the_space() {
 
 #[test]
 fn off_the_reservation() {
-    assert_eq!(alone(0x13_f000, PAGE, 7, 0), shows(7, 0));
+    assert_eq!(alone(0x13_f000, PAGE, 7, 0), shows(7, 0, PAGE));
     assert_eq!(alone(0x13_f000, 2 * PAGE, 7, 0), bad_mapping(0));
     assert_eq!(alone(0x14_0000, PAGE, 7, 0), bad_mapping(0));
     assert_eq!(alone(0x15_0000, PAGE, 7, 0), bad_mapping(0));
     assert_eq!(alone(0x17_f000, PAGE, 7, 0), bad_mapping(0));
     assert_eq!(alone(0x17_f000, 2 * PAGE, 7, 0), bad_mapping(0));
-    assert_eq!(alone(0x18_0000, PAGE, 7, 0), shows(7, 0));
+    assert_eq!(alone(0x18_0000, PAGE, 7, 0), shows(7, 0, PAGE));
     assert_eq!(alone(0x10_0000, 0x10_0000, 7, 0), bad_mapping(0));
     let free = Space {
         reserved_start: 0,
@@ -237,19 +309,19 @@ fn off_the_reservation() {
         ..COMMON
     };
     let inner = [[0x15_0000, PAGE, 7, 0]];
-    assert_eq!(look(&free, &inner, 0x15_0000), shows(7, 0));
+    assert_eq!(look(&free, &inner, 0x15_0000), shows(7, 0, PAGE));
     let all = Space {
         reserved_start: 0x10_0000,
         reserved_size: 0x10_0000,
         ..COMMON
     };
     assert_eq!(look(&all, &inner, 0x15_0000), bad_mapping(0));
-    assert_eq!(lookup(&all, &[0; 4], 0, 0x15_0000), NOTHING);
+    assert_eq!(lookup(&all, &[0; 4], 0, 0x15_0000), nothing(0xb_0000));
 }
 
 #[test]
 fn order() {
-    let here = shows(7, 0);
+    let here = shows(7, 0, 0x2000);
     // Apart, touching; then sharing a page, equal.
     assert_eq!(pair([0x10_0000, 0x2000], [0x10_3000, 0x1000]), here);
     assert_eq!(pair([0x10_0000, 0x2000], [0x10_2000, 0x1000]), here);
@@ -289,13 +361,22 @@ fn a_full_table() {
     // 4,096 pages without a gap; object p + 1 at place p.
     let page = |place: u64| [place * PAGE, PAGE, place + 1, place * 2 * PAGE];
     let mut table: Vec<Words> = (0..4096).map(page).collect();
-    assert_eq!(look(&WIDEST, &table, 0), shows(1, 0));
-    assert_eq!(look(&WIDEST, &table, 0xfff), shows(1, 0xfff));
-    assert_eq!(look(&WIDEST, &table, 0x1f_ffff), shows(512, 0x3f_efff));
-    assert_eq!(look(&WIDEST, &table, 0x20_0000), shows(513, 0x40_0000));
-    assert_eq!(look(&WIDEST, &table, 0x80_0005), shows(2049, 0x100_0005));
-    assert_eq!(look(&WIDEST, &table, 0xff_ffff), shows(4096, 0x1ff_efff));
-    assert_eq!(look(&WIDEST, &table, 0x100_0000), NOTHING);
+    assert_eq!(look(&WIDEST, &table, 0), shows(1, 0, PAGE));
+    assert_eq!(look(&WIDEST, &table, 0xfff), shows(1, 0xfff, 1));
+    assert_eq!(look(&WIDEST, &table, 0x1f_ffff), shows(512, 0x3f_efff, 1));
+    assert_eq!(
+        look(&WIDEST, &table, 0x20_0000),
+        shows(513, 0x40_0000, PAGE)
+    );
+    assert_eq!(
+        look(&WIDEST, &table, 0x80_0005),
+        shows(2049, 0x100_0005, 0xffb)
+    );
+    assert_eq!(look(&WIDEST, &table, 0xff_ffff), shows(4096, 0x1ff_efff, 1));
+    assert_eq!(
+        look(&WIDEST, &table, 0x100_0000),
+        nothing(LIMIT - 0x100_0000)
+    );
     assert_eq!(lookup(&WIDEST, &table.concat(), 4097, 0), refused(4));
     table.push([0x100_0000, PAGE, 4097, 0]);
     assert_eq!(look(&WIDEST, &table, 0), refused(2));
@@ -310,7 +391,51 @@ fn a_full_table() {
 
 #[test]
 fn an_empty_table() {
-    assert_eq!(lookup(&COMMON, &[0; 4], 0, 0x10_0000), NOTHING);
-    assert_eq!(lookup(&COMMON, &[u64::MAX; 16_384], 0, 0x10_0000), NOTHING);
+    let all = nothing(0x10_0000);
+    assert_eq!(lookup(&COMMON, &[0; 4], 0, 0x10_0000), all);
+    assert_eq!(lookup(&COMMON, &[u64::MAX; 16_384], 0, 0x10_0000), all);
+    assert_eq!(lookup(&COMMON, &[0; 4], 0, 0x1f_ffff), nothing(1));
+    assert_eq!(lookup(&COMMON, &[0; 4], 0, 0x20_0000), OUTSIDE);
     assert_eq!(lookup(&COMMON, &[0; 4], 1, 0x10_0000), bad_mapping(0));
+}
+
+/// In a few pages byte by byte, from the last one on: a byte goes on as far as the next one if the
+/// same mapping has both, or none has either.
+#[test]
+fn every_byte_of_a_few_pages() {
+    let (start, end) = (16 * PAGE, 24 * PAGE);
+    let space = Space {
+        start,
+        size: end - start,
+        reserved_start: 20 * PAGE,
+        reserved_size: PAGE,
+    };
+    // From page, pages. All show one object, and each goes on as the one before it.
+    let tables: [&[[u64; 2]]; 4] = [
+        &[],
+        &[[17, 1], [18, 2], [22, 1]],
+        &[[16, 1], [17, 1], [19, 1], [21, 3]],
+        &[[16, 4], [21, 1], [23, 1]],
+    ];
+    for drawn in tables {
+        let mapping = |&[page, pages]: &[u64; 2]| [page * PAGE, pages * PAGE, 7, page * PAGE];
+        let mappings: Vec<Words> = drawn.iter().map(mapping).collect();
+        let words = [mappings.concat(), vec![0; 4]].concat();
+        let owner = |byte: u64| {
+            let has = |[page, pages]: &[u64; 2]| (*page..page + pages).contains(&(byte / PAGE));
+            drawn.iter().position(has)
+        };
+        let look = |byte: u64| lookup(&space, &words, drawn.len() as u64, byte);
+        assert_eq!([look(start - 1), look(end)], [OUTSIDE; 2]);
+        let mut bytes = 0;
+        for byte in (start..end).rev() {
+            let goes_on = byte + 1 < end && owner(byte) == owner(byte + 1);
+            bytes = if goes_on { bytes + 1 } else { 1 };
+            let expected = match owner(byte) {
+                Some(_) => shows(7, byte, bytes),
+                None => nothing(bytes),
+            };
+            assert_eq!(look(byte), expected, "{byte:#x} in {drawn:?}");
+        }
+    }
 }

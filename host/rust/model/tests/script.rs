@@ -79,7 +79,7 @@ fn worked_example() {
                    lower 0 4096 7 0\n\
                    upper 8192 4096 7 8192\n\
                    map 4096 4096 9 0\n\
-                   at 8200 7 8200\n";
+                   at 8200 7 8200 4088\n";
     assert_eq!(script(&bytes), printed);
 }
 
@@ -94,6 +94,7 @@ fn numbers_are_decimal_and_whole() {
     prints(
         &[
             space(0, LIMIT, 0, 0),
+            look_up(0),
             map(LIMIT - 2 * PAGE, 2 * PAGE, u32::MAX, LIMIT - 2 * PAGE),
             look_up(LIMIT - 1),
             look_up(LIMIT),
@@ -102,12 +103,13 @@ fn numbers_are_decimal_and_whole() {
         ],
         &[
             "space 256",
+            "at 0 none 281474976710656",
             "granted 1 1",
             "map 281474976702464 8192 4294967295 281474976702464",
-            "at 281474976710655 4294967295 281474976710655",
-            "at 281474976710656 none",
-            "at 18446744073709551615 none",
-            "at 4294967296 none",
+            "at 281474976710655 4294967295 281474976710655 1",
+            "at 281474976710656 none 0",
+            "at 18446744073709551615 none 0",
+            "at 4294967296 none 281470681735168",
         ],
     );
 }
@@ -189,26 +191,68 @@ fn lookups() {
         &[
             space(16 * PAGE, 16 * PAGE, 24 * PAGE, PAGE),
             map(17 * PAGE, 2 * PAGE, 7, 3 * PAGE),
+            look_up(16 * PAGE),
             look_up(17 * PAGE - 1),
             look_up(17 * PAGE),
             look_up(19 * PAGE - 1),
             look_up(19 * PAGE),
-            // In the reservation, below the space, and 0.
+            // In the reservation, which ends no gap; below the space, and 0; its last byte and end.
             look_up(24 * PAGE),
             look_up(16 * PAGE - 1),
             look_up(0),
+            look_up(32 * PAGE - 1),
+            look_up(32 * PAGE),
         ],
         &[
             "space 256",
             "granted 1 1",
             "map 69632 8192 7 12288",
-            "at 69631 none",
-            "at 69632 7 12288",
-            "at 77823 7 20479",
-            "at 77824 none",
-            "at 98304 none",
-            "at 65535 none",
-            "at 0 none",
+            "at 65536 none 4096",
+            "at 69631 none 1",
+            "at 69632 7 12288 8192",
+            "at 77823 7 20479 1",
+            "at 77824 none 53248",
+            "at 98304 none 32768",
+            "at 65535 none 0",
+            "at 0 none 0",
+            "at 131071 none 1",
+            "at 131072 none 0",
+        ],
+    );
+}
+
+/// A mapping that is cut shows what it showed, but no longer goes on over the cut.
+#[test]
+fn lookups_beside_a_cut() {
+    prints(
+        &[
+            plain_space(),
+            map(0, 3 * PAGE, 7, 0),
+            look_up(8),
+            // The same page again, which becomes a mapping of its own; then it goes.
+            map(PAGE, PAGE, 7, PAGE),
+            look_up(8),
+            look_up(PAGE + 8),
+            unmap(PAGE, PAGE),
+            look_up(PAGE + 8),
+            look_up(2 * PAGE + 8),
+        ],
+        &[
+            "space 256",
+            "granted 1 1",
+            "map 0 12288 7 0",
+            "at 8 7 8 12280",
+            "granted 2 3",
+            "remap 0 12288 7 0 keep 1",
+            "lower 0 4096 7 0",
+            "upper 8192 4096 7 8192",
+            "map 4096 4096 7 4096",
+            "at 8 7 8 4088",
+            "at 4104 7 4104 4088",
+            "granted 1 2",
+            "unmap 4096 4096 7 4096 keep 0",
+            "at 4104 none 4088",
+            "at 8200 7 8200 4088",
         ],
     );
 }
@@ -327,7 +371,7 @@ fn refused_space_changes_nothing() {
             "map 0 4096 7 0",
             "refused 1",
             "refused 1",
-            "at 1 7 1",
+            "at 1 7 1 4095",
             "granted 1 2",
             "map 61440 4096 7 0",
             "refused 7",
@@ -351,7 +395,7 @@ fn granted_space_empties() {
             "granted 1 1",
             "map 0 4096 7 0",
             "space 256",
-            "at 1 none",
+            "at 1 none 32767",
             "refused 7",
             "granted 1 1",
             "map 0 4096 7 0",
@@ -380,7 +424,7 @@ fn cut_records() {
     let left_over = [&start, &request, &address, b"\0".as_slice()].concat();
     assert_eq!(
         script(&left_over),
-        "space 256\ngranted 0 0\nat 5 none\ncut 86\n"
+        "space 256\ngranted 0 0\nat 5 none 65531\ncut 86\n"
     );
 }
 
@@ -394,7 +438,7 @@ fn other_marks() {
             let other = [mark.as_slice(), &vec![b'S'; behind]].concat();
             assert_eq!(script(&other), "mark 0\n");
             let later = [plain_space(), look_up(0), other, look_up(0)].concat();
-            assert_eq!(script(&later), "space 256\nat 0 none\nmark 44\n");
+            assert_eq!(script(&later), "space 256\nat 0 none 65536\nmark 44\n");
         }
     }
 }
