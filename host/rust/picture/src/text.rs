@@ -74,9 +74,9 @@ pub fn line(bytes: &[u8]) -> Result<Line, String> {
         ["unmap", ref old @ .., "keep", mark] => cut(Kind::Unmap, old, mark),
         ["lower", ref rest @ ..] => Ok(Line::Rest(Side::Lower, mapping(rest)?)),
         ["upper", ref rest @ ..] => Ok(Line::Rest(Side::Upper, mapping(rest)?)),
-        ["at", address, "none"] => only_numbers(&[address], Line::Unchanging),
-        ["at", address, object, offset] => {
-            only_numbers(&[address, object, offset], Line::Unchanging)
+        ["at", address, "none", bytes] => only_numbers(&[address, bytes], Line::Unchanging),
+        ["at", address, object, offset, bytes] => {
+            only_numbers(&[address, object, offset, bytes], Line::Unchanging)
         }
         ["refused", rule] => only_numbers(&[rule], Line::Unchanging),
         ["mark" | "cut", place] => only_numbers(&[place], Line::Stopped),
@@ -117,8 +117,9 @@ mod tests {
             Ok(Line::Rest(Side::Upper, old))
         );
         for text in [
-            "at 8200 7 8200",
-            "at 18446744073709551615 none",
+            "at 8200 7 8200 4088",
+            "at 0 none 4096",
+            "at 18446744073709551615 none 0",
             "refused 8",
         ] {
             assert_eq!(line(text), Ok(Line::Unchanging));
@@ -141,6 +142,9 @@ mod tests {
             "remap 0 4096 7 0 keep",
             "remap 0 4096 7 0 0 keep 0",
             "at 0",
+            "at 0 none",
+            "at 8200 7 8200",
+            "at 8200 7 8200 4088 ",
             "space",
             "host/test: passed",
         ] {
@@ -152,7 +156,10 @@ mod tests {
     fn other_numbers_are_told() {
         for (text, word) in [
             ("map 0x0 4096 7 0", "0x0"),
-            ("at +1 none", "+1"),
+            ("at +1 none 0", "+1"),
+            ("at 0 none ", ""),
+            ("at 0 7 0 -", "-"),
+            ("at 0 none 4096 1", "none"),
             ("refused ", ""),
             ("granted 1 18446744073709551616", "18446744073709551616"),
         ] {
@@ -161,7 +168,9 @@ mod tests {
                 Err(format!("'{word}' is not a number of 64 bits"))
             );
         }
-        assert_eq!(line("at -1 none"), Err("'-1' is negative".to_string()));
+        for text in ["at -1 none 0", "at 0 none -1"] {
+            assert_eq!(line(text), Err("'-1' is negative".to_string()));
+        }
         let told = "a keep mark is 0 or 1, not '2'".to_string();
         assert_eq!(line("unmap 0 4096 7 0 keep 2"), Err(told));
         assert_eq!(line("map 0 4096 0 0"), Err("0 is no object".to_string()));

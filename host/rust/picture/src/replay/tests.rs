@@ -49,7 +49,7 @@ fn every_example_replays() {
         (include_str!("../../../../../examples/every-line.out"), 281),
         (include_str!("../../../../../examples/full-table.out"), 261),
         (include_str!("../../../../../examples/broken.out"), 1),
-        ("refused 1\nat 0 none\ncut 3\n", 0),
+        ("refused 1\nat 0 none 4096\ncut 3\n", 0),
         ("", 0),
     ] {
         let replayed = replay(text, None).unwrap();
@@ -103,7 +103,7 @@ fn numbers_that_differ() {
     assert_eq!(told(4, "granted 3 3"), (4, operations));
     let untold = "no granted line has told of this operation".to_string();
     assert_eq!(told(4, "granted 1 2"), (8, untold.clone()));
-    assert_eq!(told(2, "at 0 none"), (3, untold));
+    assert_eq!(told(2, "at 0 none 65536"), (3, untold));
     let cut: Vec<&str> = WORKED.lines().take(7).collect();
     let operations = "tells of 2 operations, and there are 1".to_string();
     assert_eq!(told_of(cut.join("\n")), (4, operations));
@@ -116,7 +116,7 @@ fn lines_of_no_kind() {
     }
     let stopped = "vmbind has stopped before this line".to_string();
     assert_eq!(
-        told_of(format!("{WORKED}mark 96\nat 0 none\n")),
+        told_of(format!("{WORKED}mark 96\nat 0 7 0 4096\n")),
         (11, stopped)
     );
 }
