@@ -1,6 +1,6 @@
 //! Calls of the library, each compared to the model: its answer and every word lent to it.
 
-use crate::library::{self, Bound, Shown};
+use crate::library::{self, Bound, Looked};
 use crate::memory::Lent;
 use crate::tables::Table;
 use std::fmt::Debug;
@@ -132,17 +132,17 @@ impl Caller {
     }
 
     /// Looks an address up in the table that is lent, to which the model's answer is `model`.
-    pub fn look_up(&mut self, way: Way, space: &Space, count: u64, address: u64, model: Shown) {
+    pub fn look_up(&mut self, way: Way, space: &Space, count: u64, address: u64, model: Looked) {
         self.table.expect(|_| {});
         let given = library::space(space);
         let answered = match way {
             Way::Words => {
                 let answer = ffi::lookup(given, self.table.words(), count, address);
-                same(answer, library::shown_words(model))
+                same(answer, library::looked_words(model))
             }
             Way::Types => {
                 let lent = waylluqen::Table::with_count(self.table.words_mut(), count);
-                same(lent.lookup(given, address), library::shown(model))
+                same(lent.lookup(given, address), library::looked(model))
             }
         };
         if answered.is_err() || !self.table.is_as_expected() {

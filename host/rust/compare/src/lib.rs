@@ -14,5 +14,7 @@ pub mod printed;
 pub mod program;
 pub mod requests;
 pub mod scripts;
+pub mod sights;
 pub mod tables;
 mod unread;
+pub mod walk;

@@ -3,11 +3,11 @@
 use waylluqen::{ffi, Refusal, Rests};
 use waylluqen_model::answer;
 use waylluqen_model::bind::KIND_MAP;
-use waylluqen_model::{Grant, Mapping, Operation, Refused, Request, Space, Translation};
+use waylluqen_model::{Grant, Mapping, Operation, Refused, Request, Seen, Shown, Space};
 
 /// The model's answers to a request and to a look-up.
 pub type Bound = Result<Grant, Refused>;
-pub type Shown = Result<Option<Translation>, Refused>;
+pub type Looked = Result<Seen, Refused>;
 
 pub fn space(space: &Space) -> waylluqen::Space {
     waylluqen::Space {
@@ -66,12 +66,19 @@ pub fn operation(operation: &Operation) -> waylluqen::Operation {
     waylluqen::Operation::Remap { old, rests, keep }
 }
 
-pub fn shown(answer: Shown) -> Result<Option<waylluqen::Translation>, Refusal> {
-    let translation = |shown: Translation| waylluqen::Translation {
-        object: shown.object,
-        offset: shown.offset,
+fn shown(shown: Shown) -> waylluqen::Shown {
+    match shown {
+        Shown::Nothing => waylluqen::Shown::Nothing,
+        Shown::Object { object, offset } => waylluqen::Shown::Object { object, offset },
+    }
+}
+
+pub fn looked(answer: Looked) -> Result<waylluqen::Seen, Refusal> {
+    let seen = |seen: Seen| waylluqen::Seen {
+        shown: shown(seen.shown),
+        bytes: seen.bytes,
     };
-    answer.map(|found| found.map(translation)).map_err(refusal)
+    answer.map(seen).map_err(refusal)
 }
 
 /// The answer to a request record by itself, of which the model tells the number.
@@ -100,20 +107,28 @@ pub fn bound_words(bound: &Bound, count: u64) -> ffi::Answer {
     }
 }
 
-/// The five words in which C has this answer.
-pub fn shown_words(answer: Shown) -> ffi::Translation {
-    let (refusal, place) = match answer {
-        Ok(_) => (0, 0),
-        Err(refused) => (u64::from(refused.number), refused.place),
+/// The six words in which C has this answer; what does not apply is 0.
+pub fn looked_words(answer: Looked) -> ffi::Translation {
+    let mut words = ffi::Translation {
+        refusal: 0,
+        place: 0,
+        shown: 0,
+        object: 0,
+        offset: 0,
+        bytes: 0,
     };
-    let found = answer.ok().flatten();
-    ffi::Translation {
-        refusal,
-        place,
-        mapped: u64::from(found.is_some()),
-        object: found.map_or(0, |found| found.object),
-        offset: found.map_or(0, |found| found.offset),
+    match answer {
+        Ok(Seen { shown, bytes }) => {
+            words.bytes = bytes;
+            if let Shown::Object { object, offset } = shown {
+                (words.shown, words.object, words.offset) = (1, object, offset);
+            }
+        }
+        Err(refused) => {
+            (words.refusal, words.place) = (u64::from(refused.number), refused.place);
+        }
     }
+    words
 }
 
 /// What a grant makes of a table: its mappings, and zeros behind them.

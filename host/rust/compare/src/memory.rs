@@ -55,14 +55,15 @@ impl Lent {
     }
 
     /// Other words around a table and behind its first `count` mappings: any, zeros, or a mapping
-    /// that shows the address.
+    /// that shows the address or starts at the page behind it.
     pub fn stir(&mut self, random: &mut Random, count: u64, address: u64) {
         let first = address / PAGE * PAGE;
-        let choice = random.below(3);
+        let choice = random.below(4);
         let mut other = |at: usize| match choice {
             0 => random.next_u64(),
             1 => 0,
-            _ => [first, PAGE, 9, 0][at % MAPPING_WORDS],
+            2 => [first, PAGE, 9, 0][at % MAPPING_WORDS],
+            _ => [first.wrapping_add(PAGE), PAGE, 9, 0][at % MAPPING_WORDS],
         };
         let start = self.start;
         let end = start + self.words;

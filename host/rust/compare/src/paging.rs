@@ -2,11 +2,10 @@
 
 use crate::library;
 use crate::tables::Table;
+use crate::walk::{moved, Walk};
+use waylluqen::{Seen, Shown};
 use waylluqen_model::table::mapping_at;
 use waylluqen_model::{replay, Grant, Mapping, Page, Pages, Request, OPERATION_WORDS, PAGE};
-
-/// What a page's first byte shows: an object and the byte of it.
-type Shown = Option<[u64; 2]>;
 
 /// The mappings in the words of a table.
 fn mappings_of(table: &Table) -> Vec<Mapping> {
@@ -16,25 +15,30 @@ fn mappings_of(table: &Table) -> Vec<Mapping> {
         .collect()
 }
 
-/// What each page shows, by look-ups of its first and last byte.
-fn shown_by_lookup(table: &Table) -> Vec<Shown> {
-    let space = &table.space;
-    let mut words = table.words.clone();
-    let lent = waylluqen::Table::with_count(&mut words, table.count);
+/// What each page shows and how far, by look-ups of its first and last byte.
+fn seen_by_lookup(table: &Table) -> Vec<Seen> {
+    let (space, walk) = (&table.space, Walk::new(table));
     let page = |page: u64| {
         let address = space.start + page * PAGE;
-        let [first, last] = [address, address + PAGE - 1].map(|address| {
-            let shown = lent.lookup(library::space(space), address);
-            let shown = shown.expect("a table that was granted is in order");
-            shown.map(|shown| [shown.object, shown.offset])
-        });
-        assert_eq!(
-            first.map(|[object, offset]| [object, offset + PAGE - 1]),
-            last
-        );
+        let first = walk.look_up(address);
+        let last = walk.look_up(address + PAGE - 1);
+        assert_eq!(moved(first, PAGE - 1), last);
         first
     };
     (0..space.size / PAGE).map(page).collect()
+}
+
+/// The same as it is painted.
+fn seen_as_painted(painted: &Pages) -> Vec<Seen> {
+    let shown = |page: &Page| Shown::Object {
+        object: page.object,
+        offset: page.offset,
+    };
+    let seen = |(place, page): (usize, &Option<Page>)| Seen {
+        shown: page.as_ref().map_or(Shown::Nothing, shown),
+        bytes: painted.bytes_from(place),
+    };
+    painted.pages.iter().enumerate().map(seen).collect()
 }
 
 /// Asserts for each page of an old mapping inside the range that it shows what it showed before
@@ -78,17 +82,14 @@ pub fn assert_pages(old: &Table, new: &Table, request: &Request, grant: &Grant, 
     assert!(read.iter().copied().eq(expected));
 
     let mut pages = Pages::new(&old.space, &before);
-    let shown = |page: &Option<Page>| page.map(|page| [page.object, page.offset]);
-    let unasked: Vec<_> = pages.pages.iter().map(shown).collect();
-    let seen_before = shown_by_lookup(old);
-    assert_eq!(seen_before, unasked);
+    let seen_before = seen_by_lookup(old);
+    assert_eq!(seen_before, seen_as_painted(&pages));
     pages.ask(request);
     assert_eq!(pages.mappings(), after);
-    let asked: Vec<_> = pages.pages.iter().map(shown).collect();
-    let seen_after = shown_by_lookup(new);
-    assert_eq!(seen_after, asked);
-    let both = seen_before.into_iter().zip(seen_after);
-    let both: Vec<[Shown; 2]> = both.map(<[Shown; 2]>::from).collect();
+    let seen_after = seen_by_lookup(new);
+    assert_eq!(seen_after, seen_as_painted(&pages));
+    let both = seen_before.iter().zip(&seen_after);
+    let both: Vec<[Shown; 2]> = both.map(|(old, new)| [old.shown, new.shown]).collect();
     for operation in &read {
         assert_mark(operation, request, old.space.start, &both);
     }

@@ -6,7 +6,7 @@ use waylluqen_model::random::Random;
 use waylluqen_model::script;
 
 /// The lines that granted requests and answered look-ups make.
-pub const LINES: [&str; 13] = [
+pub const LINES: [&str; 14] = [
     "space",
     "granted",
     "map",
@@ -20,6 +20,7 @@ pub const LINES: [&str; 13] = [
     "unmap keep 1",
     "at",
     "at none",
+    "at none 0",
 ];
 
 /// Every refusal that a script can have, but for 11, which takes a full table.
@@ -52,7 +53,8 @@ fn kind(line: &str) -> &str {
     let first = line.split(' ').next().unwrap_or_default();
     match first {
         "refused" => line,
-        "at" if line.ends_with(" none") => "at none",
+        "at" if line.ends_with(" none 0") => "at none 0",
+        "at" if line.contains(" none ") => "at none",
         "remap" if line.ends_with(" keep 1") => "remap keep 1",
         "remap" => "remap keep 0",
         "unmap" if line.ends_with(" keep 1") => "unmap keep 1",

@@ -3,7 +3,9 @@
 use crate::near::{narrow_record, near_record, record_of};
 use crate::numbers::{disturb_space, edge, good_space, space_of, LIMIT};
 use crate::requests::{disturb_record, good_record, MAP, UNMAP};
-use crate::tables::{any_address, fill_space, free_parts, plain_spaces, small_spaces, Good};
+use crate::tables::{
+    any_address, boundaries, fill_space, free_parts, plain_spaces, small_spaces, Good,
+};
 use waylluqen_model::bind::least_operation_words;
 use waylluqen_model::random::Random;
 use waylluqen_model::{bind_record, space_holds, write};
@@ -78,6 +80,13 @@ impl Script {
 
     pub fn look_up(&mut self, address: u64) {
         self.put(&write::lookup(address));
+    }
+
+    /// Looks up at every boundary of the space and of what is mapped.
+    pub fn look_up_boundaries(&mut self) {
+        for address in boundaries(&self.good) {
+            self.look_up(address);
+        }
     }
 
     /// A request that keeps its rules: near what is mapped, or anywhere.

@@ -45,6 +45,15 @@ impl Good {
         words.extend((0..spare * MAPPING_WORDS).map(|_| random.next_u64()));
         words
     }
+
+    /// The table of these words.
+    pub fn table(&self, random: &mut Random, spare: usize) -> Table {
+        Table {
+            space: self.space,
+            words: self.words(random, spare),
+            count: self.mappings.len() as u64,
+        }
+    }
 }
 
 /// What is below the reservation and what is above it, as (start, end).
@@ -121,6 +130,13 @@ pub fn fill_space(random: &mut Random, space: Space, most: u64) -> Good {
     Good { space, mappings }
 }
 
+/// A space that is filled up to so many mappings.
+pub fn filled(random: &mut Random, space: Space, mappings: usize) -> Good {
+    let good = fill_space(random, space, mappings as u64);
+    assert_eq!(good.mappings.len(), mappings);
+    good
+}
+
 /// A good space with 1 to `largest` mappings.
 pub fn good_table(random: &mut Random, largest: u64) -> Good {
     loop {
@@ -130,6 +146,22 @@ pub fn good_table(random: &mut Random, largest: u64) -> Good {
         if !good.mappings.is_empty() {
             return good;
         }
+    }
+}
+
+/// So many mappings that touch and go on with the same bytes, as if they were one; with gaps in
+/// front of the first and behind the last.
+pub fn cut_up(mappings: u64, pages_each: u64) -> Good {
+    let (start, size) = (64 * PAGE, pages_each * PAGE);
+    let mapping = |place: u64| Mapping {
+        address: start + place * size,
+        size,
+        object: 7,
+        offset: 3 * PAGE + place * size,
+    };
+    Good {
+        space: space_of([PAGE, 2 * start + mappings * size, 2 * PAGE, PAGE]),
+        mappings: (0..mappings).map(mapping).collect(),
     }
 }
 

@@ -4,14 +4,15 @@ use std::ops::Range;
 use std::thread;
 use waylluqen::View;
 use waylluqen_compare::calls::{Caller, Way};
-use waylluqen_compare::library::{self, Shown};
+use waylluqen_compare::library::{self, Looked};
 use waylluqen_compare::numbers::{
     disturb_space, edge_spaces, edges, other64, space_of, HALF, LIMIT,
 };
+use waylluqen_compare::sights::Sights;
 use waylluqen_compare::tables::{
-    any_address, any_table, boundaries, damage, fill_space, good_table, large_spaces, other_count,
-    other_length, plain_spaces, small_spaces, some_most, Good, Table, DAMAGES, LONGEST_TABLE,
-    MANY_MAPPINGS, MOST_WORDS,
+    any_address, any_table, boundaries, cut_up, damage, fill_space, filled, good_table,
+    large_spaces, other_count, other_length, plain_spaces, small_spaces, some_most, Good, Table,
+    DAMAGES, LONGEST_TABLE, MANY_MAPPINGS, MOST_WORDS,
 };
 use waylluqen_model::random::Random;
 use waylluqen_model::{lookup, Refused, Space, MAPPING_WORDS, MOST_MAPPINGS, PAGE};
@@ -20,8 +21,7 @@ use waylluqen_model::{lookup, Refused, Space, MAPPING_WORDS, MOST_MAPPINGS, PAGE
 struct Tally {
     caller: Caller,
     comparisons: u64,
-    mapped: u64,
-    unmapped: u64,
+    sights: Sights,
     /// By number.
     refused: [u64; 6],
     /// Bad mappings that were the first, the last, or between.
@@ -37,8 +37,7 @@ impl Tally {
         Tally {
             caller: Caller::new(seed),
             comparisons: 0,
-            mapped: 0,
-            unmapped: 0,
+            sights: Sights::default(),
             refused: [0; 6],
             first: 0,
             last: 0,
@@ -48,26 +47,27 @@ impl Tally {
     }
 
     /// Looks up in words and by the types, with other words around.
-    fn compare(&mut self, space: &Space, table: &[u64], count: u64, address: u64) -> Shown {
+    fn compare(&mut self, space: &Space, table: &[u64], count: u64, address: u64) -> Looked {
         let model = lookup(space, table, count, address);
         self.caller.lend(table);
         for way in [Way::Words, Way::Types] {
             self.caller.stir(count, address);
             self.caller.look_up(way, space, count, address, model);
         }
-        self.note(model, count);
+        self.comparisons += 1;
+        match model {
+            Ok(seen) => {
+                self.on_most += u64::from(count == MOST_MAPPINGS as u64);
+                self.sights.count(space, table, count, address, seen);
+            }
+            Err(refused) => self.note_refusal(refused, count),
+        }
         model
     }
 
-    fn note(&mut self, answer: Shown, count: u64) {
-        self.comparisons += 1;
-        self.on_most += u64::from(answer.is_ok() && count == MOST_MAPPINGS as u64);
-        match answer {
-            Ok(Some(_)) => self.mapped += 1,
-            Ok(None) => self.unmapped += 1,
-            Err(refused) => self.refused[refused.number as usize] += 1,
-        }
-        if let Err(Refused { number: 5, place }) = answer {
+    fn note_refusal(&mut self, refused: Refused, count: u64) {
+        self.refused[refused.number as usize] += 1;
+        if let Refused { number: 5, place } = refused {
             match place {
                 0 => self.first += 1,
                 place if place + 1 == count => self.last += 1,
@@ -76,9 +76,10 @@ impl Tally {
         }
     }
 
-    /// Looks all these addresses up in a full table.
+    /// Looks all these addresses up in a full table, or in an empty one that has room for one.
     fn look_at(&mut self, random: &mut Random, good: &Good, addresses: &[u64]) {
-        let (table, count) = (good.words(random, 0), good.mappings.len() as u64);
+        let spare = usize::from(good.mappings.is_empty());
+        let (table, count) = (good.words(random, spare), good.mappings.len() as u64);
         for &address in addresses {
             self.compare(&good.space, &table, count, address)
                 .expect("a good table");
@@ -114,11 +115,16 @@ impl Tally {
             let times = self.refused[number];
             assert!(times >= least, "refusal {number} came only {times} times");
         }
-        for times in [self.mapped, self.unmapped] {
-            assert!(times >= least, "an answer came only {times} times");
-        }
+        self.assert_sights(least);
         for times in [self.first, self.between, self.last] {
             assert!(times >= least, "a kind of place came only {times} times");
+        }
+    }
+
+    /// Every kind of answer from a good table came at least `least` times.
+    fn assert_sights(&self, least: u64) {
+        for (kind, times) in self.sights.kinds() {
+            assert!(times >= least, "{kind} came only {times} times");
         }
     }
 
@@ -126,15 +132,9 @@ impl Tally {
     fn print(&self, test: &str) {
         let [_, space, length, _, count, mapping] = self.refused;
         println!(
-            "{test}: {} comparisons, mapped {}, unmapped {}, refused 1: {space}, 2: {length}, \
-             4: {count}, 5: {mapping} (first {}, between {}, last {}), on most {}",
-            self.comparisons,
-            self.mapped,
-            self.unmapped,
-            self.first,
-            self.between,
-            self.last,
-            self.on_most
+            "{test}: {} comparisons, {:?}, refused 1: {space}, 2: {length}, 4: {count}, \
+             5: {mapping} (first {}, between {}, last {}), on most {}",
+            self.comparisons, self.sights, self.first, self.between, self.last, self.on_most
         );
     }
 }
@@ -178,25 +178,18 @@ fn good_tables_and_those_near_them() {
     assert!(tally.on_most >= 1000, "only {} answers", tally.on_most);
 }
 
-/// A table that is filled up to so many mappings.
-fn filled(random: &mut Random, space: Space, mappings: usize) -> Good {
-    let good = fill_space(random, space, mappings as u64);
-    assert_eq!(good.mappings.len(), mappings);
-    good
-}
-
 #[test]
 fn every_boundary_of_good_tables() {
     let mut random = Random::new(21);
     let mut tally = Tally::new(22);
-    for space in plain_spaces() {
-        for mappings in [1, 2, 3, 17, 100, 511, 512, 512] {
-            let good = filled(&mut random, space, mappings);
+    for space in plain_spaces().into_iter().chain(small_spaces()) {
+        for mappings in [0, 1, 2, 3, 17, 100, 511, 512, 512] {
+            let good = fill_space(&mut random, space, mappings);
             tally.look_at(&mut random, &good, &boundaries(&good));
         }
     }
     tally.print("every boundary of good tables");
-    assert!(tally.mapped >= 1000 && tally.unmapped >= 1000);
+    tally.assert_sights(100);
 }
 
 #[test]
@@ -205,7 +198,7 @@ fn boundaries_of_large_tables() {
     let mut random = Random::new(25);
     let mut tally = Tally::new(26);
     for space in large_spaces() {
-        for mappings in [513, 1024, 4094, 4095, 4096] {
+        for mappings in [513, 1024, 4094, 4095] {
             let good = filled(&mut random, space, mappings);
             let all = boundaries(&good);
             // The first and the last ones, and some of those between.
@@ -216,7 +209,34 @@ fn boundaries_of_large_tables() {
         }
     }
     tally.print("boundaries of large tables");
-    assert!(tally.mapped >= 1000 && tally.unmapped >= 100);
+    tally.assert_sights(10);
+}
+
+#[test]
+fn every_boundary_of_the_largest_tables() {
+    let mut random = Random::new(29);
+    let mut tally = Tally::new(30);
+    for space in large_spaces() {
+        let good = filled(&mut random, space, MOST_MAPPINGS);
+        tally.look_at(&mut random, &good, &boundaries(&good));
+    }
+    tally.print("every boundary of the largest tables");
+    tally.assert_sights(4);
+    assert_eq!(tally.on_most, tally.comparisons);
+}
+
+#[test]
+fn neighbours_that_go_on() {
+    let mut random = Random::new(27);
+    let mut tally = Tally::new(28);
+    for (mappings, pages_each) in [(2, 1), (3, 5), (100, 2), (512, 1), (4096, 3)] {
+        let good = cut_up(mappings, pages_each);
+        let before = tally.sights.continued;
+        tally.look_at(&mut random, &good, &boundaries(&good));
+        // From the first byte, the last byte and the middle of each but the last.
+        assert!(tally.sights.continued - before >= 3 * (mappings - 1));
+    }
+    tally.print("neighbours that go on");
 }
 
 #[test]
@@ -281,13 +301,13 @@ fn lengths_and_counts() {
     }
     tally.print("lengths and counts");
     assert!(tally.refused[2] >= 1000 && tally.refused[4] >= 1000);
-    assert!(tally.mapped >= 1000 && tally.unmapped >= 1000);
+    assert!(tally.sights.objects >= 1000 && tally.sights.nothing() >= 1000);
     // All the words that an accepted length leaves are good mappings.
     assert_eq!(tally.refused[1] + tally.refused[5], 0);
     // The pointer of a slice that never had memory.
     let [space, ..] = plain_spaces();
     let refused = waylluqen::Table::empty(&mut []).lookup(library::space(&space), 0);
-    assert_eq!(refused, library::shown(lookup(&space, &[], 0, 0)));
+    assert_eq!(refused, library::looked(lookup(&space, &[], 0, 0)));
 }
 
 /// Look-ups in one view from several threads, beside each other.
@@ -305,7 +325,7 @@ fn views_of_several_threads() {
                 let address = any_address(&mut random, &good);
                 let model = lookup(&space, &words, count, address);
                 let answer = view.lookup(library::space(&space), address);
-                assert_eq!(answer, library::shown(model), "at {address:#x}");
+                assert_eq!(answer, library::looked(model), "at {address:#x}");
             }
         };
         thread::scope(|scope| {
@@ -329,7 +349,7 @@ fn spaces_at_edges() {
     }
     tally.print("spaces at edges");
     assert!(tally.refused[1] >= 1000 && tally.refused[5] >= 100);
-    assert!(tally.mapped > 0 && tally.unmapped > 0);
+    assert!(tally.sights.objects > 0 && tally.sights.nothing() > 0);
 }
 
 #[test]
@@ -350,7 +370,7 @@ fn any_words() {
     for number in [1, 2, 4, 5] {
         assert!(tally.refused[number] >= 1000, "{number} came too rarely");
     }
-    assert!(tally.unmapped >= 1000);
+    assert!(tally.sights.nothing() >= 1000);
 }
 
 /// Every address, size, object and offset at an edge, together.
@@ -392,7 +412,7 @@ fn one_mapping_at_edges() {
         }
     }
     tally.print("one mapping at edges");
-    assert!(tally.mapped >= 100 && tally.refused[5] >= 1000);
+    assert!(tally.sights.objects >= 100 && tally.refused[5] >= 1000);
 }
 
 /// Two ranges in a space of a few pages, every one beside every other one.
@@ -416,6 +436,6 @@ fn two_mappings_in_a_few_pages() {
         }
     }
     tally.print("two mappings in a few pages");
-    assert!(tally.mapped >= 100 && tally.unmapped >= 100);
+    assert!(tally.sights.objects >= 100 && tally.sights.nothing() >= 100);
     assert!(tally.first >= 1000 && tally.last >= 1000);
 }

@@ -3,7 +3,7 @@
 use waylluqen_compare::printed::{Tally, ENDS, LINES, REFUSALS};
 use waylluqen_compare::program::Input;
 use waylluqen_compare::scripts::{bad_script, good_script, Script, ROOM};
-use waylluqen_compare::tables::plain_spaces;
+use waylluqen_compare::tables::{plain_spaces, small_spaces};
 use waylluqen_model::random::Random;
 
 #[test]
@@ -112,6 +112,33 @@ fn full_tables() {
     tally.print();
     tally.assert_kinds(&LINES, 20);
     tally.assert_kinds(&["refused 11"], 300);
+}
+
+/// Look-ups at every boundary of what some requests leave: in spaces of a few pages, and in tables
+/// that are full or nearly so.
+#[test]
+fn look_ups_at_every_boundary() {
+    let (mut tally, mut random) = Tally::new("look-ups at every boundary", 235);
+    for _ in 0..25 {
+        for space in small_spaces() {
+            let mut script = Script::empty();
+            script.space(&space);
+            for _ in 0..random.below(12) {
+                script.good_step(&mut random);
+            }
+            script.look_up_boundaries();
+            tally.compare_by_turn(&script.bytes);
+        }
+    }
+    for space in plain_spaces() {
+        for missing in [0, 1, 40] {
+            let mut script = Script::filled(&mut random, space, ROOM - missing);
+            script.look_up_boundaries();
+            tally.compare_by_turn(&script.bytes);
+        }
+    }
+    tally.print();
+    tally.assert_kinds(&["at", "at none", "at none 0"], 300);
 }
 
 #[test]

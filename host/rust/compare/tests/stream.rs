@@ -187,6 +187,8 @@ const ROUNDS: [(&str, Add); 4] = [
         script.request(&Record::plain(UNMAP, 0, 10 * PAGE, 0, 6 * PAGE));
     }),
     ("look-ups", |script| {
+        // All four numbers are long.
+        script.look_up(large_mapping(ROOM - 1).address);
         script.look_up(LIMIT - 1);
         script.look_up(u64::MAX);
         script.look_up(7);

@@ -180,7 +180,7 @@ fn report(place: usize, call: &Call) -> String {
     let asked = match &call.asked {
         Asked::Numbers(request, bound) => format!("{request:x?}\nmodel {bound:x?}"),
         Asked::Record(record, bound) => format!("record {record:02x?}\nmodel {bound:x?}"),
-        Asked::Lookup(address, shown) => format!("look up {address:#x}\nmodel {shown:x?}"),
+        Asked::Lookup(address, looked) => format!("look up {address:#x}\nmodel {looked:x?}"),
         Asked::Check(record, number) => format!("check {record:02x?}\nmodel {number}"),
     };
     let table = describe(&call.table);

@@ -1,19 +1,23 @@
 //! A call, what is lent to it, and the model's answer.
 
 use waylluqen_compare::calls::{check, Asking, Caller, Way};
-use waylluqen_compare::library::{self, Bound, Shown};
+use waylluqen_compare::library::{self, Bound, Looked};
 use waylluqen_compare::paging::assert_pages;
 use waylluqen_compare::tables::Table;
+use waylluqen_compare::walk::Walk;
 use waylluqen_model::{decode, Grant, Request, PAGE};
 
 /// The largest space that is followed page by page.
 const SMALL_SPACE: u64 = 16 * PAGE;
 
+/// The most mappings that a table has over which a walk goes.
+const WALKED: u64 = 40;
+
 /// What is asked, and what the model answers.
 pub enum Asked {
     Numbers(Request, Bound),
     Record(Vec<u8>, Bound),
-    Lookup(u64, Shown),
+    Lookup(u64, Looked),
     Check(Vec<u8>, u32),
 }
 
@@ -59,11 +63,17 @@ impl Call {
         caller.lend_operations(&self.operations);
         caller.bind(way, &self.table, asking, model);
         if let (Ok(grant), Way::Types) = (model, way) {
-            self.follow_pages(caller, asking, grant);
+            let new = Table {
+                space: self.table.space,
+                words: caller.table().to_vec(),
+                count: grant.count,
+            };
+            walk_over(&new);
+            self.follow_pages(caller, asking, grant, &new);
         }
     }
 
-    fn follow_pages(&self, caller: &Caller, asking: Asking, grant: &Grant) {
+    fn follow_pages(&self, caller: &Caller, asking: Asking, grant: &Grant, new: &Table) {
         if self.table.space.size > SMALL_SPACE {
             return;
         }
@@ -71,12 +81,7 @@ impl Call {
             Asking::Numbers(request) => request,
             Asking::Bytes(record) => decode(record).expect("it was granted"),
         };
-        let new = Table {
-            space: self.table.space,
-            words: caller.table().to_vec(),
-            count: grant.count,
-        };
-        assert_pages(&self.table, &new, &request, grant, caller.operations());
+        assert_pages(&self.table, new, &request, grant, caller.operations());
     }
 
     /// What the call has to leave.
@@ -95,13 +100,14 @@ impl Call {
                 library::write_operations(&mut outcome.operations, model);
             }
             Asked::Lookup(_, model) => {
-                let words = library::shown_words(*model);
+                let words = library::looked_words(*model);
                 outcome.answer = [
                     words.refusal,
                     words.place,
-                    words.mapped,
+                    words.shown,
                     words.object,
                     words.offset,
+                    words.bytes,
                 ];
             }
             Asked::Check(_, model) => outcome.answer[0] = u64::from(*model),
@@ -110,8 +116,22 @@ impl Call {
     }
 }
 
+/// Walks over what a grant left, run by run, and finds its mappings.
+fn walk_over(table: &Table) {
+    if table.count > WALKED {
+        return;
+    }
+    let walk = Walk::new(table);
+    let runs = walk.runs();
+    walk.assert_mappings(&runs);
+    for run in &runs {
+        walk.assert_inside(run, run.bytes - 1);
+        walk.assert_end(run);
+    }
+}
+
 /// The longest answer is this many words; a shorter one has zeros behind it.
-pub const ANSWER_WORDS: usize = 5;
+pub const ANSWER_WORDS: usize = 6;
 
 /// What a call leaves: its answer and all words that were lent to it.
 #[derive(PartialEq, Eq)]

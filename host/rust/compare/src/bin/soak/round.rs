@@ -100,8 +100,8 @@ impl Round<'_> {
                 Asked::Numbers(request, bound)
             }
             Question::Lookup(address) => {
-                let shown = lookup(&table.space, &table.words, table.count, *address);
-                Asked::Lookup(*address, shown)
+                let looked = lookup(&table.space, &table.words, table.count, *address);
+                Asked::Lookup(*address, looked)
             }
         }
     }

@@ -1,9 +1,10 @@
 //! How often each kind of call and each answer came.
 
 use crate::call::{Asked, Call};
-use waylluqen_compare::library::{Bound, Shown};
+use waylluqen_compare::library::{Bound, Looked};
 use waylluqen_compare::marks::Marks;
-use waylluqen_compare::tables::MANY_MAPPINGS;
+use waylluqen_compare::sights::Sights;
+use waylluqen_compare::tables::{Table, MANY_MAPPINGS};
 use waylluqen_model::answer::{NO_ROOM, UNALIGNED};
 use waylluqen_model::{MAPPING_WORDS, MOST_MAPPINGS};
 
@@ -27,8 +28,7 @@ pub struct Tally {
     long: u64,
     stale: u64,
     marks: Marks,
-    mapped: u64,
-    unmapped: u64,
+    sights: Sights,
     /// By number; those that a check does not refuse are at 0.
     refused: [u64; 15],
 }
@@ -37,7 +37,7 @@ pub struct Tally {
 fn has_good_table(asked: &Asked) -> bool {
     let refused = match asked {
         Asked::Numbers(_, bound) | Asked::Record(_, bound) => bound.as_ref().err(),
-        Asked::Lookup(_, shown) => shown.as_ref().err(),
+        Asked::Lookup(_, looked) => looked.as_ref().err(),
         Asked::Check(..) => return false,
     };
     refused.is_none_or(|refused| (UNALIGNED..=NO_ROOM).contains(&refused.number))
@@ -57,9 +57,9 @@ impl Tally {
                     self.by_record += 1;
                     self.count_bound(bound);
                 }
-                Asked::Lookup(_, shown) => {
+                Asked::Lookup(address, looked) => {
                     self.lookups += 1;
-                    self.count_shown(shown);
+                    self.count_looked(&call.table, *address, looked);
                 }
                 Asked::Check(_, number) => {
                     self.checks += 1;
@@ -95,10 +95,14 @@ impl Tally {
         }
     }
 
-    fn count_shown(&mut self, shown: &Shown) {
-        match shown {
-            Ok(Some(_)) => self.mapped += 1,
-            Ok(None) => self.unmapped += 1,
+    fn count_looked(&mut self, table: &Table, address: u64, looked: &Looked) {
+        let Table {
+            space,
+            words,
+            count,
+        } = table;
+        match looked {
+            Ok(seen) => self.sights.count(space, words, *count, address, *seen),
             Err(refused) => self.refused[refused.number as usize] += 1,
         }
     }
@@ -113,8 +117,6 @@ impl Tally {
             checks,
             granted,
             largest,
-            mapped,
-            unmapped,
             refused: [passed, refused @ ..],
             ..
         } = self;
@@ -127,12 +129,13 @@ impl Tally {
             "host/soak: passed, seed {seed}, {rounds} rounds\n\
              {calls} calls, each made three ways: {by_numbers} requests by numbers, {by_record} by \
              record, {lookups} look-ups, {checks} checks\n\
-             {granted} requests granted, on tables of up to {largest} mappings; {mapped} addresses \
-             mapped, {unmapped} not; {passed} checks passed\n\
-             {}\n{}\n\
+             {granted} requests granted, on tables of up to {largest} mappings; {passed} checks \
+             passed\n\
+             {}\n{}\n{}\n\
              refused {}",
             self.of_tables(),
             self.of_marks(),
+            self.of_sights(),
             refused.join(", ")
         )
     }
@@ -150,6 +153,21 @@ impl Tally {
              on full ones of {MOST_MAPPINGS}\n\
              {long} requests granted with more than {MANY_WORDS} words behind the last mapping, {stale} \
              of them with a stale one"
+        )
+    }
+
+    fn of_sights(&self) -> String {
+        let Sights {
+            objects,
+            continued,
+            gaps,
+            last_gaps,
+            outside,
+        } = self.sights;
+        format!(
+            "{objects} addresses show an object, {continued} of them with a neighbour that goes on \
+             with the same bytes; {gaps} show nothing up to a mapping, {last_gaps} up to the \
+             space's end, {outside} are outside"
         )
     }
 
