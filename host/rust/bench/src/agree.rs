@@ -2,7 +2,8 @@
 //! tables; else there is nothing to compare.
 
 use crate::line::{lines, Call, Line};
-use crate::manager::{contenders, lent, Bound, Contender, Grant, Shown, TREE};
+use crate::manager::{contenders, lent, Bound, Contender, Grant, Looked, TREE};
+use waylluqen::Shown;
 use waylluqen_compare::library::{self, change_table, write_operations};
 use waylluqen_compare::near::{disturb, near_record, widen};
 use waylluqen_compare::tables::{any_address, good_table, some_operation_words, Good, Table};
@@ -68,13 +69,13 @@ fn compare_bind(table: &Table, request: &model::Request, list_words: usize) {
     }
 }
 
-fn compare_lookup(table: &Table, address: u64) -> Shown {
+fn compare_lookup(table: &Table, address: u64) -> Looked {
     let Table {
         space,
         words,
         count,
     } = table;
-    let expected = library::shown(model::lookup(space, words, *count, address));
+    let expected = library::looked(model::lookup(space, words, *count, address));
     for contender in contenders_for(table) {
         let mut manager = (contender.begin)(words, *count);
         let answer = manager.lookup(library::space(space), address);
@@ -135,8 +136,8 @@ fn compare_line(line: &Line) {
     for call in &line.calls {
         match *call {
             Call::Lookup(address) => {
-                let shown = compare_lookup(&table, address);
-                assert!(matches!(shown, Ok(Some(_))), "{}", line.name());
+                let seen = compare_lookup(&table, address).expect("is answered");
+                assert_ne!(seen.shown, Shown::Nothing, "{}", line.name());
             }
             Call::Bind(given) => {
                 let request = model::Request {

@@ -13,6 +13,7 @@ mod plain;
 mod report;
 mod rules;
 mod script;
+mod seen;
 mod timing;
 mod tree;
 

@@ -2,7 +2,7 @@
 
 use crate::plain::{Checked, Folded, Joined, Masked, Merged, Plain};
 use crate::tree::Tree;
-use waylluqen::{Refusal, Request, Space, Table, Translation};
+use waylluqen::{Refusal, Request, Seen, Space, Table};
 
 /// What a granted request answers.
 #[derive(Clone, Copy, Debug, PartialEq, Eq)]
@@ -12,12 +12,12 @@ pub struct Grant {
 }
 
 pub type Bound = Result<Grant, Refusal>;
-pub type Shown = Result<Option<Translation>, Refusal>;
+pub type Looked = Result<Seen, Refusal>;
 
 /// Keeps the mappings of a space, and checks them at each call.
 pub trait Manager {
     fn bind(&mut self, space: Space, request: Request, list: &mut [u64]) -> Bound;
-    fn lookup(&mut self, space: Space, address: u64) -> Shown;
+    fn lookup(&mut self, space: Space, address: u64) -> Looked;
     /// The table as words, and its count.
     fn table(&self) -> (Vec<u64>, u64);
 }
@@ -100,7 +100,7 @@ impl Manager for Library {
         })
     }
 
-    fn lookup(&mut self, space: Space, address: u64) -> Shown {
+    fn lookup(&mut self, space: Space, address: u64) -> Looked {
         Table::with_count(&mut self.words, self.count).lookup(space, address)
     }
 

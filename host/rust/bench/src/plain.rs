@@ -2,19 +2,20 @@
 //! search are written in five ways, since only a clock knows the quickest.
 
 use crate::cut::{cut, lower_rest, map_operation, new_mapping, upper_rest};
-use crate::manager::{Bound, Grant, Manager, Shown};
+use crate::manager::{Bound, Grant, Looked, Manager};
 use crate::rules::{bad_mapping, bounds, capacity, check_list, check_request};
 use crate::rules::{checked_end, masked_end, Bounds, Mapping};
+use crate::seen::{seen_in, seen_off};
 use std::marker::PhantomData;
 use std::ops::Range;
-use waylluqen::{Refusal, Request, Space, Translation, LIMIT, MAPPING_WORDS, MAX_OBJECT};
+use waylluqen::{Refusal, Request, Space, LIMIT, MAPPING_WORDS, MAX_OBJECT};
 use waylluqen::{OPERATION_WORDS, PAGE_SIZE};
 
 /// The places of mappings in a table, or why it is refused.
 type Places = Result<Range<usize>, Refusal>;
 
 /// A way to check the mappings of a table, and to find those that have a byte from `first` to
-/// `last`.
+/// `last`; where none has, the start of the places is that of the next one.
 pub trait Way {
     fn hits(bounds: &Bounds, mappings: &[Mapping], first: u64, last: u64) -> Places;
 }
@@ -292,16 +293,15 @@ fn change(
     })
 }
 
-fn lookup<W: Way>(space: Space, words: &[u64], count: u64, address: u64) -> Shown {
+fn lookup<W: Way>(space: Space, words: &[u64], count: u64, address: u64) -> Looked {
     let bounds = bounds(space)?;
     let count = counted(count, capacity(words.len())?)?;
     let mappings: &[Mapping] = &words.as_chunks().0[..count];
     let hits = W::hits(&bounds, mappings, address, address)?;
-    let shown = |&[start, _, object, offset]: &Mapping| Translation {
-        object,
-        offset: offset + (address - start),
-    };
-    Ok(mappings[hits].first().map(shown))
+    Ok(match mappings.get(hits.start) {
+        Some(mapping) if mapping[0] <= address => seen_in(mapping, address),
+        next => seen_off(&bounds, next.map(|next| next[0]), address),
+    })
 }
 
 impl<W: Way> Manager for Plain<W> {
@@ -311,7 +311,7 @@ impl<W: Way> Manager for Plain<W> {
         Ok(grant)
     }
 
-    fn lookup(&mut self, space: Space, address: u64) -> Shown {
+    fn lookup(&mut self, space: Space, address: u64) -> Looked {
         lookup::<W>(space, &self.words, self.count, address)
     }
 

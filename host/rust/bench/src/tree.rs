@@ -2,11 +2,12 @@
 //! through the map.
 
 use crate::cut::{cut, lower_rest, map_operation, new_mapping, upper_rest};
-use crate::manager::{Bound, Grant, Manager, Shown};
+use crate::manager::{Bound, Grant, Looked, Manager};
 use crate::rules::{bad_mapping, bounds, capacity, check_list, check_request, masked_end};
 use crate::rules::{Bounds, Mapping};
+use crate::seen::{seen_in, seen_off};
 use std::collections::BTreeMap;
-use waylluqen::{Refusal, Request, Space, Translation, MAPPING_WORDS, OPERATION_WORDS};
+use waylluqen::{Refusal, Request, Space, MAPPING_WORDS, OPERATION_WORDS};
 
 /// Size, object and offset by their address.
 pub struct Tree {
@@ -104,16 +105,19 @@ impl Manager for Tree {
         self.change(capacity, list, &request, end)
     }
 
-    fn lookup(&mut self, space: Space, address: u64) -> Shown {
+    fn lookup(&mut self, space: Space, address: u64) -> Looked {
         let bounds = bounds(space)?;
         capacity(self.words)?;
         self.check(&bounds)?;
         let below = self.at_or_below(address);
         let found = below.filter(|&[start, size, ..]| address - start < size);
-        Ok(found.map(|[start, _, object, offset]| Translation {
-            object,
-            offset: offset + (address - start),
-        }))
+        Ok(match found {
+            Some(mapping) => seen_in(&mapping, address),
+            None => {
+                let next = self.mappings.range(address..).next();
+                seen_off(&bounds, next.map(|(&start, _)| start), address)
+            }
+        })
     }
 
     fn table(&self) -> (Vec<u64>, u64) {
