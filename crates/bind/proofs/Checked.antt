@@ -1,8 +1,8 @@
 -- Rows that pass leave a table that can be searched and changed.
 -- Assumes nothing.
-use mathlib.Core.Path.{_≡_, sym, _∙_}
+use mathlib.Core.Path.{_≡_, refl, sym, _∙_}
 use mathlib.Core.List.{List, [], _∷_}
-use Prim.Native.Nat.{ℕ, zero, suc, _+_, _≤_}
+use Prim.Native.Nat.{ℕ, zero, suc, _≤_}
 use lib.Dec.{eqb→eq}
 use Rattle.model.specs.declared.Request.{Request}
 use Rattle.model.specs.declared.Space.{Space}
@@ -14,7 +14,7 @@ use Rattle.model.proofs.Rows.{passed-split, answered-passed, andThen, decide-ap
 use Rattle.model.proofs.Groups.{TablePassed, table-passed, RequestPassed, request-passed}
 use Rattle.model.proofs.Store.{length-mappings}
 use Rattle.model.proofs.Operations.{operations-most}
-use Rattle.table.specs.Places.{Valid}
+use Rattle.table.specs.Places.{ValidIn}
 use Rattle.change.specs.Change.{Ready}
 use Rattle.bind.specs.Bound.{checkedRows}
 
@@ -27,18 +27,19 @@ offset-most r p = go (r .op) (p .object) (p .offset)
     go (suc n) h k = omega (tests, h)
 
 module _ (s : Space) (t : Table) where
-  valid-by : {between : List Row} → TablePassed s between t → Valid (t .words) (t .count)
-  valid-by p = record {
-    held = omega (tests, p .count);
-    space = s;
-    top = omega (tests, p .space);
-    kept = eqb→eq _ _ (p .places .0) ∙ length-mappings (t .count) (t .words);
-  }
+  valid-by : {between : List Row} → TablePassed s between t → ValidIn s (t .words) (t .count)
+  valid-by p = (
+    record {
+      held = omega (tests, p .count);
+      space = s;
+      top = omega (tests, p .space);
+      kept = eqb→eq _ _ (p .places .0) ∙ length-mappings (t .count) (t .words);
+    },
+    refl,
+  )
 
-  pub valid : answered tt ≡ verdict (tableRows s [] t) → (s .start + s .size ≤ limit) × Valid (t .words) (t .count)
-  valid e =
-      let rows : TablePassed s [] t = table-passed s [] t (answered-passed (tableRows s [] t) tt tt (sym e) .0) in
-      (omega (tests, rows .space), valid-by rows)
+  pub valid : answered tt ≡ verdict (tableRows s [] t) → ValidIn s (t .words) (t .count)
+  valid e = valid-by (table-passed s [] t (answered-passed (tableRows s [] t) tt tt (sym e) .0))
 
   -- the rows 1 to 5 of a request, with n words lent for operations
   abbrev lentRows : ℕ → List Row
@@ -50,7 +51,7 @@ module _ (s : Space) (t : Table) where
       let rows : TablePassed s (operationsRow n t ∷ []) t = table-passed s (operationsRow n t ∷ []) t (p .0) in
       let ask : RequestPassed s r = request-passed s r (p .1) in
       record {
-        table = valid-by rows;
+        table = valid-by rows .0;
         not-empty = omega (tests, ask .alignment);
         stop-most = omega (tests, ask .range, rows .space);
         offset-most = offset-most r ask;

@@ -16,7 +16,7 @@ use Rattle.model.specs.Exactly.{_∈_, Each, Ascends, MappingRules, Tabl
 use Rattle.model.specs.Lookups.{Has, Free, Next, InSpace, Tells, along, Parts, GoesOn, Lookup}
 use Rattle.model.proofs.Numbers.{order}
 use Rattle.model.proofs.Tests.{tests, all-true, all-false}
-use Rattle.model.proofs.Actions.{each, each-mem}
+use Rattle.model.proofs.Actions.{each-mem, each-map}
 use Rattle.model.proofs.Translate.{translate-here, translate-past, hides-all}
 use Rattle.model.proofs.Chain.{Chain}
 use Rattle.model.proofs.Table.{top, rules-chain-all, table-says}
@@ -41,14 +41,6 @@ module _ (to : ℕ) (m : Mapping) (ms : List Mapping) (x : ℕ) where
 pub runEnd-none : (to x : ℕ) → runEnd to [] x ≡ to
 unfolding runEnd
 runEnd-none to x = refl
-
--- by one mapping that ends behind x, and an edge behind x, the answer ends behind x
-pub runEnd-some : (to : ℕ) (m : Mapping) (x : ℕ) → x < end m → x < to → x < runEnd to (m ∷ []) x
-runEnd-some to m x h k = go (order (m .address) x)
-  where
-    go : (m .address ≤ x) ⊎ (x < m .address) → x < runEnd to (m ∷ []) x
-    go (inl l) = omega (arith, runEnd-here to m [] x (l, h))
-    go (inr l) = omega (arith, runEnd-before to m [] x l, runEnd-none to x)
 
 -- mappings that all start at or behind an address behind x have no say below it
 pub runEnd-behind : (to a x : ℕ) (ms : List Mapping) → x < a → Each (λ m. a ≤ m .address) ms → min a (runEnd to ms x) ≡ min a to
@@ -134,9 +126,10 @@ sight-past s m ms x _ h (of-end k) = of-end all
     all o (List·Memᴰ·tail i) = k o i
 
 -- the mappings of a chain start at or behind its start
-chain-from : (s : Space) (from to : ℕ) (ms : List Mapping) → Chain s from to ms → (m : Mapping) → m ∈ ms → from ≤ m .address
-chain-from s from to (n ∷ ms) c m (List·Memᴰ·head e) = omega (arith, c .0 .start, ap (λ (k : Mapping). k .address) e)
-chain-from s from to (n ∷ ms) c m (List·Memᴰ·tail i) = omega (arith, chain-from s (end n) to ms (c .1) m i, c .0 .start)
+pub chain-from : (s : Space) (from to : ℕ) (ms : List Mapping) → Chain s from to ms → Each (λ m. from ≤ m .address) ms
+chain-from s from to [] c = tt
+chain-from s from to (m ∷ ms) c =
+    (c .0 .start, each-map (λ n. end m ≤ n .address) (λ n. from ≤ n .address) ms (λ n l. omega (arith, c .0 .start)) (chain-from s (end m) to ms (c .1)))
 
 pub see-none : (s : Space) (x : ℕ) → InSpace s x → see s [] x ≡ shows Nothing (top s - x)
 unfolding translate runEnd
@@ -149,9 +142,10 @@ see-inside s m ms x i b =
     ap₂ shows (translate-here m ms x b)
     (bytes-inside s x i (runEnd (top s) (m ∷ ms) x) ∙ ap (λ (e : ℕ). e - x) (runEnd-here (top s) m ms x b))
 
-module _ (s : Space) (from : ℕ) (m : Mapping) (ms : List Mapping) (x : ℕ) (c : Chain s from (top s) (m ∷ ms)) (i : InSpace s x) (h : x < m .address) where
+-- a mapping in front of others that start at its end or behind it, and x before it
+module _ (s : Space) (m : Mapping) (ms : List Mapping) (x : ℕ) (a : Each (λ n. end m ≤ n .address) ms) (h : x < m .address) where
   starts : (n : Mapping) → n ∈ ms → end m ≤ n .address
-  starts = chain-from s (end m) (top s) ms (c .1)
+  starts n k = each-mem (λ n. end m ≤ n .address) ms n a k
 
   free-before : Free (m ∷ ms) x
   free-before n (List·Memᴰ·head e) b = omega (arith, ap (λ (k : Mapping). k .address) e)
@@ -164,21 +158,22 @@ module _ (s : Space) (from : ℕ) (m : Mapping) (ms : List Mapping) (x : ℕ) (c
       nearest n (List·Memᴰ·head e) l = omega (arith, ap (λ (k : Mapping). k .address) e)
       nearest n (List·Memᴰ·tail k) l = omega (arith, starts n k)
 
-  pub see-before : see s (m ∷ ms) x ≡ shows Nothing (m .address - x)
-  see-before =
-      let a = each (λ n. m .address ≤ n .address) ms (λ n k. omega (arith, starts n k)) in
-      let e : runEnd (top s) (m ∷ ms) x ≡ m .address =
-      omega (arith, runEnd-before (top s) m ms x h, runEnd-behind (top s) (m .address) x ms h a, c .0 .high) in
+  pub see-before : InSpace s x → end m ≤ top s → see s (m ∷ ms) x ≡ shows Nothing (m .address - x)
+  see-before i k =
+      let e : runEnd (top s) (m ∷ ms) x ≡ m .address = omega (arith, runEnd-before (top s) m ms x h, runEnd-behind (top s) (end m) x ms (omega arith) a) in
       ap₂ shows (hides-all (m ∷ ms) x free-before) (bytes-inside s x i (runEnd (top s) (m ∷ ms) x) ∙ ap (λ (e : ℕ). e - x) e)
 
 sees : (s : Space) (from : ℕ) (ms : List Mapping) (x : ℕ) → Chain s from (top s) ms → InSpace s x → Sight s ms x (see s ms x)
 sees s from [] x c i = subst (Sight s [] x) (sym (see-none s x i)) (of-end (λ m k. absurd (List·Memᴰ·not-nil k)))
 sees s from (m ∷ ms) x c i = go (stands m x) (sees s (end m) ms x (c .1) i)
   where
+    others : Each (λ n. end m ≤ n .address) ms
+    others = chain-from s (end m) (top s) ms (c .1)
+
     go : Stands m x → Sight s ms x (see s ms x) → Sight s (m ∷ ms) x (see s (m ∷ ms) x)
     go (before h) ih =
-        subst (Sight s (m ∷ ms) x) (sym (see-before s from m ms x c i h))
-        (of-next m (free-before s from m ms x c i h) (next-first s from m ms x c i h))
+        subst (Sight s (m ∷ ms) x) (sym (see-before s m ms x others h i (c .0 .high)))
+        (of-next m (free-before s m ms x others h) (next-first s m ms x others h))
     go (inside b) ih = subst (Sight s (m ∷ ms) x) (sym (see-inside s m ms x i b)) (of-mapping m (List·Memᴰ·head refl) b)
     go (behind h) ih = rw (see-past s m ms x h) (sight-past s m ms x _ h ih)
 

@@ -5,5 +5,6 @@ pub mod First
 pub mod Halving
 pub mod Looks
 pub mod Places
+pub mod Sees
 pub mod Spliced
 pub mod Words

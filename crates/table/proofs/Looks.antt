@@ -1,23 +1,21 @@
 -- The search by halves in the words of a table that passed its check, and what the place that it finds is good for.
 -- Assumes nothing.
 use mathlib.Core.Path.{_≡_, sym, ap, subst, _∙_}
-use mathlib.Core.List.{List, [], _∷_}
+use mathlib.Core.List.{List}
 use Prim.Native.Nat.{ℕ, _^_, _≤_, _<_}
 use native.Mathlib.Omega.{arith}
-use lib.ListN.{length, take, drop}
+use lib.ListN.{length, drop}
 use Rattle.model.specs.declared.Mapping.{Mapping}
-use Rattle.model.specs.declared.Space.{Space}
 use Rattle.model.specs.Rules.{end}
 use Rattle.model.specs.Table.{mappingsIn}
-use Rattle.model.specs.Cut.{see}
 use Rattle.model.specs.Exactly.{Each}
 use Rattle.model.proofs.Store.{length-mappings}
 use Rattle.table.specs.declared.Search.{Search}
 use Rattle.table.specs.Places.{mappingAt, firstWhere, endsBehind, Valid}
 use Rattle.table.specs.Halving.{binaryDigits, whole, middle, halved, at, halving, Halvable}
-use Rattle.table.proofs.Places.{at-place, from-place, from-end, valid-ascends, valid-at}
+use Rattle.table.proofs.Places.{at-place, from-place, valid-ascends, valid-at}
 use Rattle.table.proofs.First.{first-most}
-use Rattle.table.proofs.Ends.{ends-behind, first-sees}
+use Rattle.table.proofs.Ends.{ends-behind}
 use Rattle.table.proofs.Digits.{binary-digits}
 use Rattle.table.proofs.Halving.{finds, Left, left-start, left-end, left-some, left-next}
 
@@ -67,13 +65,3 @@ module _ {ws : List ℕ} {n : ℕ} (v : Valid ws n) (x : ℕ) where
   found-ends {m} i e h r =
       let b : Each (λ k. x < end k) (drop i ms) = rw e (ends-behind x ms (valid-ascends v)) in
       subst (Each (λ k. x < end k)) (from-place ws n i m h r) b .0
-
-  module _ (s : Space) where
-    sees : (i : ℕ) → i ≡ first → see s (take 1 (drop i ms)) x ≡ see s ms x
-    sees i e = rw e (first-sees x s ms (valid-ascends v))
-
-    pub none-sees : {i : ℕ} → i ≡ first → i ≡ n → see s [] x ≡ see s ms x
-    none-sees {i} e q = ap (λ (ks : List Mapping). see s (take 1 ks) x) (sym (from-end ws n i q)) ∙ sees i e
-
-    pub found-sees : {m : Mapping} (i : ℕ) → i ≡ first → i < n → m ≡ mappingAt ws i → see s (m ∷ []) x ≡ see s ms x
-    found-sees {m} i e h r = rw (from-place ws n i m h r) at (sees i e)

@@ -57,16 +57,20 @@ module _ {ws : List ℕ} {n : ℕ} (v : Valid ws n) where
   pub valid-chain : Chain (v .space) 0 (top (v .space)) (mappingsIn n ws)
   valid-chain = good-chain (v .space) (mappingsIn n ws) (v .kept ∙ sym (length-mappings n ws))
 
-  rules : TableRules (v .space) (mappingsIn n ws)
-  rules = chain-rules (v .space) 0 (top (v .space)) (mappingsIn n ws) valid-chain
+  pub valid-rules : TableRules (v .space) (mappingsIn n ws)
+  valid-rules = chain-rules (v .space) 0 (top (v .space)) (mappingsIn n ws) valid-chain
 
   pub valid-ascends : Ascends (mappingsIn n ws)
-  valid-ascends = rules .1
+  valid-ascends = valid-rules .1
+
+  pub rules-at : {m : Mapping} (i : ℕ) → i < n → m ≡ mappingAt ws i → MappingRules (v .space) m
+  rules-at {m} i h e =
+      let l : i < length (mappingsIn n ws) = omega (arith, length-mappings n ws) in
+      let f = each-at (MappingRules (v .space)) (mappingsIn n ws) i m (valid-rules .0) l in
+      subst (MappingRules (v .space)) (at-place n ws i m h ∙ sym e) f
 
   -- no sum of a mapping in it is large
   pub valid-at : {m : Mapping} (i : ℕ) → i < n → m ≡ mappingAt ws i → (end m ≤ limit) × (m .offset + m .size ≤ limit)
   valid-at {m} i h e =
-      let l : i < length (mappingsIn n ws) = omega (arith, length-mappings n ws) in
-      let f = each-at (MappingRules (v .space)) (mappingsIn n ws) i m (rules .0) l in
-      let g : MappingRules (v .space) m = subst (MappingRules (v .space)) (at-place n ws i m h ∙ sym e) f in
+      let g = rules-at i h e in
       (omega (arith, g .within, v .top), g .offset-end-most)

@@ -3,10 +3,12 @@
 use mathlib.Core.Path.{_≡_}
 use mathlib.Core.Bool.{Bool}
 use mathlib.Core.List.{List, [], _∷_}
-use Prim.Native.Nat.{ℕ, suc, _+_, _*_, _≤_}
+use Prim.Native.Nat.{ℕ, suc, _+_, _-_, _*_, _≤_}
 use lib.Dec.{ltb}
 use lib.ListN.{length, drop}
 use Rattle.model.specs.declared.Mapping.{Mapping}
+use Rattle.model.specs.declared.Seen.{Seen}
+use Rattle.model.specs.declared.Shown.the-variants.{Nothing, Object}
 use Rattle.model.specs.declared.Space.{Space}
 use Rattle.model.specs.Rows.{choose}
 use Rattle.model.specs.Rules.{limit, end}
@@ -36,9 +38,19 @@ startsBehind x m = ltb x (m .address)
 abbrev pub endsBehind : ℕ → Mapping → Bool
 endsBehind x m = ltb x (end m)
 
+-- what is seen at x by the first mapping that ends behind it
+abbrev pub seenBy : Mapping → ℕ → Seen
+seenBy m x = choose (ltb x (m .address))
+    (record { shown = Nothing; bytes = m .address - x })
+    (record { shown = Object (m .object) (m .offset + (x - m .address)); bytes = end m - x })
+
 -- a table that passed its check: its mappings keep their rules in some space
 pub record Valid (ws : List ℕ) (count : ℕ) : Type 0 where
   pub held : 4 * count ≤ length ws
   pub space : Space
   pub top : space .start + space .size ≤ limit
   pub kept : badPlace space 0 (mappingsIn count ws) ≡ count
+
+-- in this space
+abbrev pub ValidIn : Space → List ℕ → ℕ → Type 0
+ValidIn s ws count = (v : Valid ws count) × (v .space ≡ s)

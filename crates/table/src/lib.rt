@@ -9,11 +9,11 @@ ghost use Prim.Native.Nat.{_+_, _*_, _≤_, _<_};
 ghost use lib.ListN.{length, drop};
 ghost use Rattle.model.specs.Rules.{limit, end};
 ghost use Rattle.model.specs.Table.{mappingFrom, mappingsIn, wordsOf, written};
-ghost use Rattle.model.specs.Cut.{prepend, translate, runEnd, bytesTo, see};
-ghost use Rattle.model.specs.Lookups.{InSpace};
+ghost use Rattle.model.specs.Cut.{prepend, inSpaceTests, see};
+ghost use Rattle.model.specs.Rows.{all};
 ghost use Rattle.words.specs.Words.{stored, cleared};
 ghost use Rattle.table.specs.Halving.{binaryDigits, middle, halved, halving, Halvable};
-ghost use Rattle.table.specs.Places.{mappingAt, firstWhere, startsBehind, endsBehind, Valid};
+ghost use Rattle.table.specs.Places.{mappingAt, firstWhere, startsBehind, endsBehind, seenBy, Valid, ValidIn};
 ghost use Rattle.table.specs.Splice.{mappingsOf, spliced, Splice};
 
 // Up to three mappings that take the place of others.
@@ -129,66 +129,51 @@ pub fn first_ending_behind(t: &[u64], count: usize, x: u64) -> usize
     halve(t, count, x).lo
 }
 
-// What the byte address `x` shows by one mapping.
-fn shown_by(m: Mapping, x: u64) -> Shown
-    requires { ⌜ m .offset + m .size ≤ limit ⌝ }
-    ensures { λ r. ⌜ r ≡ translate (m ∷ []) x ⌝ }
+// What is seen at `x` by the first mapping that ends behind it, the next one where `x` is not in it.
+fn seen_by(m: Mapping, x: u64) -> Seen
+    requires { ⌜ (x < end m) × (end m ≤ limit) × (m .offset + m .size ≤ limit) ⌝ }
+    ensures { λ v. ⌜ v ≡ seenBy m x ⌝ }
 {
     if x < m.address {
-        return Shown::Nothing;
+        return Seen {
+            shown: Shown::Nothing,
+            bytes: m.address - x,
+        };
     }
-    if x - m.address < m.size {
-        return Shown::Object(m.object, m.offset + (x - m.address));
+    Seen {
+        shown: Shown::Object(m.object, m.offset + (x - m.address)),
+        bytes: m.address + m.size - x,
     }
-    Shown::Nothing
 }
 
-// Where the answer at `x` ends, by one mapping that ends behind it: there, or at its address, or at the edge `to`.
-fn run_end(m: Mapping, to: u64, x: u64) -> u64
-    requires { ⌜ (x < end m) × (end m ≤ limit) ⌝ }
-    ensures { λ e. ⌜ e ≡ runEnd to (m ∷ []) x ⌝ }
+// The byte address `x` lies inside the space.
+fn in_space(s: Space, x: u64) -> bool
+    requires { ⌜ s .start + s .size ≤ limit ⌝ }
+    ensures { λ b. ⌜ b ≡ all (inSpaceTests s x) ⌝ }
 {
-    if m.address <= x {
-        return m.address + m.size;
-    }
-    if m.address < to {
-        return m.address;
-    }
-    to
+    (s.start <= x) & (x < s.start + s.size)
 }
 
-// The bytes from `x` up to `to`; outside the space none.
-fn bytes_to(s: Space, to: u64, x: u64) -> u64
-    requires { ⌜ (s .start + s .size ≤ limit) × (InSpace s x → x ≤ to) ⌝ }
-    ensures { λ n. ⌜ n ≡ bytesTo s to x ⌝ }
-{
-    if x < s.start {
-        return 0;
-    }
-    if s.start + s.size <= x {
-        return 0;
-    }
-    to - x
-}
-
-// What a look-up sees at the byte address `x`: no mapping but the first that ends behind it can have it or be the next one.
+// What a look-up sees at the byte address `x`. One search: no mapping but the first that ends behind `x` can have it or be the
+// next one.
 pub fn see(s: Space, t: &[u64], count: usize, x: u64) -> Seen
-    requires { ⌜ (s .start + s .size ≤ limit) × Valid (now t) count ⌝ }
+    requires { ⌜ ValidIn s (now t) count ⌝ }
     ensures { λ v. ⌜ v ≡ see s (mappingsIn count (now (t .entry))) x ⌝ }
 {
-    let to = s.start + s.size;
+    if !in_space(s, x) {
+        return Seen {
+            shown: Shown::Nothing,
+            bytes: 0,
+        };
+    }
     let i = first_ending_behind(t, count, x);
     if i == count {
         return Seen {
             shown: Shown::Nothing,
-            bytes: bytes_to(s, to, x),
+            bytes: s.start + s.size - x,
         };
     }
-    let m = read_mapping(t, i);
-    Seen {
-        shown: shown_by(m, x),
-        bytes: bytes_to(s, run_end(m, to, x), x),
-    }
+    seen_by(read_mapping(t, i), x)
 }
 
 // One mapping more behind at most two.
