@@ -2,6 +2,7 @@
 
 use crate::ffi;
 
+const SHOWN_NOTHING: u64 = 0;
 const SHOWN_OBJECT: u64 = 1;
 
 /// What an address shows.
@@ -58,16 +59,16 @@ pub struct Seen {
 }
 
 impl Seen {
-    /// Reads an answer that is no refusal. The library is proved to answer no other word than 0 and
-    /// 1 for what is shown.
+    /// Reads an answer that is no refusal.
     #[inline]
     pub(crate) fn read(answer: ffi::Translation) -> Seen {
         let shown = match answer.shown {
+            SHOWN_NOTHING => Shown::Nothing,
             SHOWN_OBJECT => Shown::Object {
                 object: answer.object,
                 offset: answer.offset,
             },
-            _ => Shown::Nothing,
+            _ => unreachable!("the library is proved to answer no other word"),
         };
         Seen {
             shown,
