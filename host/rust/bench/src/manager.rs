@@ -2,7 +2,7 @@
 
 use crate::plain::{Checked, Folded, Joined, Masked, Merged, Plain};
 use crate::tree::Tree;
-use waylluqen::{Refusal, Request, Seen, Space, Table};
+use waylluqen::{Refusal, Request, Seen, Shown, Space, Table};
 
 /// What a granted request answers.
 #[derive(Clone, Copy, Debug, PartialEq, Eq)]
@@ -14,10 +14,28 @@ pub struct Grant {
 pub type Bound = Result<Grant, Refusal>;
 pub type Looked = Result<Seen, Refusal>;
 
+/// A number that depends on all of an answer's.
+fn numbers_taken(looked: Looked) -> u64 {
+    match looked {
+        Ok(Seen { shown, bytes }) => match shown {
+            Shown::Nothing => bytes,
+            Shown::Object { object, offset } => object ^ offset ^ bytes,
+        },
+        Err(refusal) => refusal.number().into(),
+    }
+}
+
 /// Keeps the mappings of a space, and checks them at each call.
 pub trait Manager {
     fn bind(&mut self, space: Space, request: Request, list: &mut [u64]) -> Bound;
     fn lookup(&mut self, space: Space, address: u64) -> Looked;
+
+    /// Looks an address up and takes the answer's numbers, as a driver does: the answer itself need
+    /// not be stored.
+    fn look_up(&mut self, space: Space, address: u64) -> u64 {
+        numbers_taken(self.lookup(space, address))
+    }
+
     /// The table as words, and its count.
     fn table(&self) -> (Vec<u64>, u64);
 }

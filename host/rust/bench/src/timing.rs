@@ -66,7 +66,7 @@ pub fn make_calls(manager: &mut dyn Manager, line: &Line, list: &mut [u64]) {
                 let _ = black_box(manager.bind(line.space, request, list));
             }
             Call::Lookup(address) => {
-                let _ = black_box(manager.lookup(line.space, address));
+                black_box(manager.look_up(line.space, address));
             }
         }
     }
