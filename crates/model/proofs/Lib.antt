@@ -41,5 +41,6 @@ pub mod Drawings
 pub mod Record
 pub mod Pinned
 pub mod Boundaries
+pub mod Distances
 pub mod Steps
 pub mod Example
