@@ -34,8 +34,8 @@ fn lookup_verdict(s: Space, table: &[u64], count: usize) -> Verdict
     inspect::table_verdict(s, table, count)
 }
 
-// What the byte address `x` shows in a table of `count` mappings, and for how many bytes, or the first of the refusals 1, 2, 4
-// and 5.
+// What the byte address `x` shows in a table of `count` mappings, and for how many bytes, or the first of the refusals 1,
+// 2, 4 and 5.
 pub fn lookup(s: Space, table: &[u64], count: usize, x: u64) -> Found
     ensures { λ f. ⌜ foundReply f ≡ lookup s (lent (now (table .entry)) count) x ⌝ }
 {

@@ -4,12 +4,13 @@
 use mathlib.Core.Path.{_≡_, refl}
 use mathlib.Core.List.{List, [], _∷_}
 use Prim.Native.Nat.{ℕ}
-use Rattle.model.specs.Prelude.{Space, Nothing, Object, Seen}
+use Rattle.model.specs.Prelude.{Space, Object, Seen}
 use Rattle.model.specs.Rows.{answered, decide}
 use Rattle.model.specs.Table.{Table, mappingsIn, badPlace, tableRows}
 use Rattle.model.specs.Cut.{translate, runEnd}
 use Rattle.model.specs.Calls.{spaceOf, lookup}
 use Rattle.model.specs.Exactly.{Each}
+use Rattle.model.specs.Lookups.{nothing}
 
 abbrev space : Space
 space = spaceOf 4096 61440 20480 4096
@@ -20,9 +21,6 @@ table = record {
   count = 3;
 }
 
-abbrev none : ℕ → Seen
-none n = record { shown = Nothing; bytes = n }
-
 abbrev byte : ℕ → ℕ → ℕ → Seen
 byte o f n = record { shown = Object o f; bytes = n }
 
@@ -30,14 +28,14 @@ byte o f n = record { shown = Object o f; bytes = n }
 unfoldable sights : List (ℕ × Seen)
 sights =
     -- before the space; the first mapping, and the one that touches it
-    (0, none 0) ∷ (4095, none 0) ∷ (4096, byte 7 0 8192) ∷ (4097, byte 7 1 8191) ∷ (12287, byte 7 8191 1)
+    (0, nothing 0) ∷ (4095, nothing 0) ∷ (4096, byte 7 0 8192) ∷ (4097, byte 7 1 8191) ∷ (12287, byte 7 8191 1)
     ∷ (12288, byte 7 8192 4096) ∷ (12289, byte 7 8193 4095) ∷ (16383, byte 7 12287 1)
     -- nothing, across the reservation
-    ∷ (16384, none 24576) ∷ (16385, none 24575) ∷ (20479, none 20481) ∷ (20480, none 20480) ∷ (24575, none 16385)
-    ∷ (24576, none 16384) ∷ (40959, none 1)
+    ∷ (16384, nothing 24576) ∷ (16385, nothing 24575) ∷ (20479, nothing 20481) ∷ (20480, nothing 20480) ∷ (24575, nothing 16385)
+    ∷ (24576, nothing 16384) ∷ (40959, nothing 1)
     -- the last mapping; nothing up to the space's end; behind it
     ∷ (40960, byte 9 1048576 4096) ∷ (40961, byte 9 1048577 4095) ∷ (45055, byte 9 1052671 1)
-    ∷ (45056, none 20480) ∷ (65535, none 1) ∷ (65536, none 0) ∷ (65537, none 0) ∷ (18446744073709551615, none 0)
+    ∷ (45056, nothing 20480) ∷ (65535, nothing 1) ∷ (65536, nothing 0) ∷ (65537, nothing 0) ∷ (18446744073709551615, nothing 0)
     ∷ []
 
 sights-right : Each (λ (a : ℕ × Seen). lookup space table (a .0) ≡ answered (a .1)) sights

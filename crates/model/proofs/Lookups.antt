@@ -13,7 +13,7 @@ use Rattle.model.specs.Table.{Table, mappings, tableRows}
 use Rattle.model.specs.Cut.{insideTests, translate, runEnd, inSpaceTests, bytesTo, see}
 use Rattle.model.specs.Calls.{lookup}
 use Rattle.model.specs.Exactly.{_∈_, Each, Ascends, MappingRules, TableRules}
-use Rattle.model.specs.Lookups.{Has, Free, Next, InSpace, Tells, along, Parts, GoesOn, Lookup}
+use Rattle.model.specs.Lookups.{Has, Free, Next, InSpace, nothing, Tells, along, Parts, GoesOn, Lookup}
 use Rattle.model.proofs.Numbers.{order}
 use Rattle.model.proofs.Tests.{tests, all-true, all-false}
 use Rattle.model.proofs.Actions.{each-mem, each-map}
@@ -61,6 +61,9 @@ module _ (s : Space) (x : ℕ) where
 abbrev shows : Shown → ℕ → Seen
 shows v n = record { shown = v; bytes = n }
 
+abbrev bytes-of : Mapping → ℕ → Seen
+bytes-of m x = shows (Object (m .object) (m .offset + (x - m .address))) (end m - x)
+
 -- ── a mapping in front of others ──
 
 module _ (s : Space) (m : Mapping) (ms : List Mapping) (x : ℕ) where
@@ -82,8 +85,9 @@ module _ (s : Space) (m : Mapping) (ms : List Mapping) (x : ℕ) where
       go (inr l) =
           let e : runEnd (top s) (m ∷ ms) x ≡ runEnd (top s) (m ∷ []) x =
           omega (arith, runEnd-before (top s) m ms x l, runEnd-before (top s) m [] x l, runEnd-none (top s) x, runEnd-behind (top s) (end m) x ms h a) in
-          ap₂ shows (translate-past m ms x (λ i. omega arith) ∙ hides-all ms x free ∙ sym (translate-past m [] x (λ i. omega arith) ∙ hides-all [] x (λ n i. absurd (List·Memᴰ·not-nil i))))
-          (ap (λ (e : ℕ). bytesTo s e x) e)
+          let none : translate [] x ≡ Nothing = hides-all [] x (λ n i. absurd (List·Memᴰ·not-nil i)) in
+          let past : (ns : List Mapping) → translate (m ∷ ns) x ≡ translate ns x = λ ns. translate-past m ns x (λ i. omega arith) in
+          ap₂ shows (past ms ∙ hides-all ms x free ∙ sym (past [] ∙ none)) (ap (λ (e : ℕ). bytesTo s e x) e)
 
 -- ── what decides ──
 
@@ -103,9 +107,9 @@ stands m x = go (order (m .address) x) (order (end m) x)
 
 -- what is seen at an address in the space, by what decides it
 data Sight (s : Space) (ms : List Mapping) (x : ℕ) : Seen → Type 0 where
-  of-mapping : (m : Mapping) → m ∈ ms → Has m x → Sight s ms x (shows (Object (m .object) (m .offset + (x - m .address))) (end m - x))
-  of-next : (m : Mapping) → Free ms x → Next ms x m → Sight s ms x (shows Nothing (m .address - x))
-  of-end : ((m : Mapping) → m ∈ ms → end m ≤ x) → Sight s ms x (shows Nothing (top s - x))
+  of-mapping : (m : Mapping) → m ∈ ms → Has m x → Sight s ms x (bytes-of m x)
+  of-next : (m : Mapping) → Free ms x → Next ms x m → Sight s ms x (nothing (m .address - x))
+  of-end : ((m : Mapping) → m ∈ ms → end m ≤ x) → Sight s ms x (nothing (top s - x))
 
 -- a mapping in front that ends at or before x changes nothing
 sight-past : (s : Space) (m : Mapping) (ms : List Mapping) (x : ℕ) (v : Seen) → end m ≤ x → Sight s ms x v → Sight s (m ∷ ms) x v
@@ -131,13 +135,13 @@ chain-from s from to [] c = tt
 chain-from s from to (m ∷ ms) c =
     (c .0 .start, each-map (λ n. end m ≤ n .address) (λ n. from ≤ n .address) ms (λ n l. omega (arith, c .0 .start)) (chain-from s (end m) to ms (c .1)))
 
-pub see-none : (s : Space) (x : ℕ) → InSpace s x → see s [] x ≡ shows Nothing (top s - x)
+pub see-none : (s : Space) (x : ℕ) → InSpace s x → see s [] x ≡ nothing (top s - x)
 unfolding translate runEnd
-see-none s x i = ap (shows Nothing) (bytes-inside s x i (top s))
+see-none s x i = ap nothing (bytes-inside s x i (top s))
 
 -- the first mapping of a chain: x inside it, or before it
 pub see-inside : (s : Space) (m : Mapping) (ms : List Mapping) (x : ℕ) → InSpace s x → Has m x
-    → see s (m ∷ ms) x ≡ shows (Object (m .object) (m .offset + (x - m .address))) (end m - x)
+    → see s (m ∷ ms) x ≡ bytes-of m x
 see-inside s m ms x i b =
     ap₂ shows (translate-here m ms x b)
     (bytes-inside s x i (runEnd (top s) (m ∷ ms) x) ∙ ap (λ (e : ℕ). e - x) (runEnd-here (top s) m ms x b))
@@ -158,7 +162,7 @@ module _ (s : Space) (m : Mapping) (ms : List Mapping) (x : ℕ) (a : Each (λ n
       nearest n (List·Memᴰ·head e) l = omega (arith, ap (λ (k : Mapping). k .address) e)
       nearest n (List·Memᴰ·tail k) l = omega (arith, starts n k)
 
-  pub see-before : InSpace s x → end m ≤ top s → see s (m ∷ ms) x ≡ shows Nothing (m .address - x)
+  pub see-before : InSpace s x → end m ≤ top s → see s (m ∷ ms) x ≡ nothing (m .address - x)
   see-before i k =
       let e : runEnd (top s) (m ∷ ms) x ≡ m .address = omega (arith, runEnd-before (top s) m ms x h, runEnd-behind (top s) (end m) x ms (omega arith) a) in
       ap₂ shows (hides-all (m ∷ ms) x free-before) (bytes-inside s x i (runEnd (top s) (m ∷ ms) x) ∙ ap (λ (e : ℕ). e - x) e)
@@ -195,31 +199,31 @@ module _ (s : Space) (ms : List Mapping) (r : TableRules s ms) where
   seen : (x : ℕ) → InSpace s x → Sight s ms x (see s ms x)
   seen x i = sees s 0 ms x (rules-chain-all s ms r) i
 
-  pub see-mapped : (x : ℕ) (m : Mapping) → m ∈ ms → Has m x → see s ms x ≡ shows (Object (m .object) (m .offset + (x - m .address))) (end m - x)
+  pub see-mapped : (x : ℕ) (m : Mapping) → m ∈ ms → Has m x → see s ms x ≡ bytes-of m x
   see-mapped x m i b = go (seen x (omega (arith, within m i .within .0), omega (arith, within m i .within .1)))
     where
-      go : {v : Seen} → Sight s ms x v → v ≡ shows (Object (m .object) (m .offset + (x - m .address))) (end m - x)
+      go : {v : Seen} → Sight s ms x v → v ≡ bytes-of m x
       go (of-mapping n j c) = rw (one-has ms n m x (r .1) j i c b)
       go (of-next n f k) = absurd (f m i b)
       go (of-end k) = absurd (omega (arith, k m i))
 
-  pub see-next : (x : ℕ) → InSpace s x → Free ms x → (m : Mapping) → Next ms x m → see s ms x ≡ shows Nothing (m .address - x)
+  pub see-next : (x : ℕ) → InSpace s x → Free ms x → (m : Mapping) → Next ms x m → see s ms x ≡ nothing (m .address - x)
   see-next x i f m k = go (seen x i)
     where
-      go : {v : Seen} → Sight s ms x v → v ≡ shows Nothing (m .address - x)
+      go : {v : Seen} → Sight s ms x v → v ≡ nothing (m .address - x)
       go (of-mapping n j c) = absurd (f n j c)
-      go (of-next n g l) = ap (λ (a : ℕ). shows Nothing (a - x)) (omega (arith, k .nearest n (l .member) (l .behind), l .nearest m (k .member) (k .behind)))
+      go (of-next n g l) = ap (λ (a : ℕ). nothing (a - x)) (omega (arith, k .nearest n (l .member) (l .behind), l .nearest m (k .member) (k .behind)))
       go (of-end l) = absurd (omega (arith, k .behind, l m (k .member)))
 
-  pub see-end : (x : ℕ) → InSpace s x → ((m : Mapping) → m ∈ ms → end m ≤ x) → see s ms x ≡ shows Nothing (top s - x)
+  pub see-end : (x : ℕ) → InSpace s x → ((m : Mapping) → m ∈ ms → end m ≤ x) → see s ms x ≡ nothing (top s - x)
   see-end x i k = go (seen x i)
     where
-      go : {v : Seen} → Sight s ms x v → v ≡ shows Nothing (top s - x)
+      go : {v : Seen} → Sight s ms x v → v ≡ nothing (top s - x)
       go (of-mapping n j c) = absurd (omega (arith, k n j))
       go (of-next n g l) = absurd (omega (arith, l .behind, k n (l .member)))
       go (of-end l) = refl
 
-  pub see-outside : (x : ℕ) → (InSpace s x → ⊥) → see s ms x ≡ shows Nothing 0
+  pub see-outside : (x : ℕ) → (InSpace s x → ⊥) → see s ms x ≡ nothing 0
   see-outside x n = ap₂ shows (hides-all ms x (λ m i b. n (omega (arith, within m i .within .0), omega (arith, within m i .within .1)))) (bytes-outside s x n _)
 
   tells : (x : ℕ) → Tells s ms x (see s ms x)
@@ -253,7 +257,7 @@ module _ (s : Space) (ms : List Mapping) (r : TableRules s ms) where
       go i (of-next n g k) l =
           see-next (x + y) (omega arith, omega (arith, k .behind, within n (k .member) .within .1)) free n
           (record { member = k .member; behind = omega (arith, k .behind); nearest = λ o j z. k .nearest o j (omega arith) })
-          ∙ ap (shows Nothing) (omega arith)
+          ∙ ap nothing (omega arith)
         where
           free : Free ms (x + y)
           free o j b = at (order (o .address) x)
@@ -261,7 +265,7 @@ module _ (s : Space) (ms : List Mapping) (r : TableRules s ms) where
               at : (o .address ≤ x) ⊎ (x < o .address) → ⊥
               at (inl z) = g o j (z, omega arith)
               at (inr z) = omega (arith, k .nearest o j z, k .behind)
-      go i (of-end k) l = see-end (x + y) (omega arith, omega arith) (λ m j. omega (arith, k m j)) ∙ ap (shows Nothing) (omega arith)
+      go i (of-end k) l = see-end (x + y) (omega arith, omega arith) (λ m j. omega (arith, k m j)) ∙ ap nothing (omega arith)
 
       pick : (s .start ≤ x) ⊎ (x < s .start) → (top s ≤ x) ⊎ (x < top s) → see s ms (x + y) ≡ shows (along y (see s ms x .shown)) (see s ms x .bytes - y)
       pick (inl a) (inr b) = go (a, b) (seen x (a, b)) h

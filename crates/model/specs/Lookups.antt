@@ -20,16 +20,20 @@ pub record Next (ms : List Mapping) (x : ℕ) (m : Mapping) : Type 0 where
 abbrev pub InSpace : Space → ℕ → Type 0
 InSpace s x = (s .start ≤ x) × (x < s .start + s .size)
 
+-- nothing, for n bytes
+abbrev pub nothing : ℕ → Seen
+nothing n = record { shown = Nothing; bytes = n }
+
 -- v is what the mappings show at x and how far, case by case
 pub record Tells (s : Space) (ms : List Mapping) (x : ℕ) (v : Seen) : Type 0 where
-  -- document 01, Look-up: inside a mapping, its object at offset + (byte address - mapping address); document 02: to the
-  -- mapping's end
+  -- document 01, Look-up: inside a mapping, its object at offset + (byte address - mapping address); document 02: to
+  -- the mapping's end
   pub mapped : (m : Mapping) → m ∈ ms → Has m x
       → v ≡ record { shown = Object (m .object) (m .offset + (x - m .address)); bytes = end m - x }
   -- nothing: to the next mapping's address; to the space's end, if there is none
-  pub before-next : InSpace s x → Free ms x → (m : Mapping) → Next ms x m → v ≡ record { shown = Nothing; bytes = m .address - x }
-  pub behind-all : InSpace s x → ((m : Mapping) → m ∈ ms → end m ≤ x) → v ≡ record { shown = Nothing; bytes = s .start + s .size - x }
-  pub outside : (InSpace s x → ⊥) → v ≡ record { shown = Nothing; bytes = 0 }
+  pub before-next : InSpace s x → Free ms x → (m : Mapping) → Next ms x m → v ≡ nothing (m .address - x)
+  pub behind-all : InSpace s x → ((m : Mapping) → m ∈ ms → end m ≤ x) → v ≡ nothing (s .start + s .size - x)
+  pub outside : (InSpace s x → ⊥) → v ≡ nothing 0
 
 -- what the byte address y bytes on shows, where the answer goes on in the same way
 abbrev pub along : ℕ → Shown → Shown
@@ -43,15 +47,18 @@ Parts m x y = (Has m x × (Has m y → ⊥)) ⊎ ((Has m x → ⊥) × Has m y)
 -- what a driver uses v for, which a look-up answered at x
 pub record GoesOn (s : Space) (t : Table) (x : ℕ) (v : Seen) : Type 0 where
   -- each byte within the distance shows the same object with its offset moved along, or nothing, for the rest of it
-  pub same : (y : ℕ) → y < v .bytes → lookup s t (x + y) ≡ answered (record { shown = along y (v .shown); bytes = v .bytes - y })
+  pub same : (y : ℕ) → y < v .bytes
+      → lookup s t (x + y) ≡ answered (record { shown = along y (v .shown); bytes = v .bytes - y })
   -- inside the space it is at least 1, and does not pass the space's end
   pub some : InSpace s x → (1 ≤ v .bytes) × (x + v .bytes ≤ s .start + s .size)
   -- the first byte behind is the space's end, or some mapping has one of the two bytes and not the other: it is another
   -- mapping's, or no mapping's where x is one's
-  pub stops : InSpace s x → (x + v .bytes ≡ s .start + s .size) ⊎ ((m : Mapping) × m ∈ mappings t × Parts m x (x + v .bytes))
+  pub stops : InSpace s x
+      → (x + v .bytes ≡ s .start + s .size) ⊎ ((m : Mapping) × m ∈ mappings t × Parts m x (x + v .bytes))
 
 abbrev pub Lookup : Type 0
-Lookup = (s : Space) (t : Table) (x : ℕ) (v : Seen) → lookup s t x ≡ answered v → Tells s (mappings t) x v × GoesOn s t x v
+Lookup = (s : Space) (t : Table) (x : ℕ) (v : Seen) → lookup s t x ≡ answered v
+    → Tells s (mappings t) x v × GoesOn s t x v
 
 -- ── a walk ──
 

@@ -90,8 +90,8 @@ pub enum Shown {
     Object(u64, u64),
 }
 
-// What a look-up sees at a byte address: what it shows, and for how many bytes from there on the answer goes on in the same
-// way.
+// What a look-up sees at a byte address: what it shows, and for how many bytes from there on the answer goes on in the
+// same way.
 pub struct Seen {
     pub shown: Shown,
     pub bytes: u64,

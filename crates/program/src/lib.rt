@@ -15,8 +15,8 @@ pub enum ScriptRecord {
     End,
 }
 
-// What the script program answers to a record: the capacity of the table that a granted `SP` emptied; a grant; an address
-// and what a look-up sees there; a refusal; or that the script ends there.
+// What the script program answers to a record: the capacity of the table that a granted `SP` emptied; a grant; an
+// address and what a look-up sees there; a refusal; or that the script ends there.
 pub enum Response {
     Emptied(usize),
     Granted(Grant),

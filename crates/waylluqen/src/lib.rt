@@ -27,8 +27,8 @@ pub struct SpaceWords {
     pub reserved_size: u64,
 }
 
-// What a look-up answers C. Refusal 0: it is answered, `shown` is 1 where the address shows an object, else 0, and `bytes` is for
-// how many bytes from there on that goes on in the same way.
+// What a look-up answers C. Refusal 0: it is answered, `shown` is 1 where the address shows an object, else 0, and
+// `bytes` is for how many bytes from there on that goes on in the same way.
 #[repr(C)]
 pub struct Translation {
     pub refusal: u64,
@@ -144,7 +144,8 @@ fn found_words(f: Found) -> Translation
     }
 }
 
-// What a byte address shows in a table of `count` mappings, and for how many bytes, or the first of the refusals 1, 2, 4 and 5.
+// What a byte address shows in a table of `count` mappings, and for how many bytes, or the first of the refusals 1, 2, 4
+// and 5.
 #[no_mangle]
 pub extern "C" fn waylluqen_lookup(
     space: SpaceWords,
