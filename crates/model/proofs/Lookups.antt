@@ -16,10 +16,9 @@ use Rattle.model.specs.Exactly.{_∈_, Each, Ascends, MappingRules, Tabl
 use Rattle.model.specs.Lookups.{Has, Free, Next, InSpace, nothing, Tells, along, Parts, GoesOn, Lookup}
 use Rattle.model.proofs.Numbers.{order}
 use Rattle.model.proofs.Tests.{tests, all-true, all-false}
-use Rattle.model.proofs.Actions.{each-mem, each-map}
+use Rattle.model.proofs.Actions.{each-mem}
 use Rattle.model.proofs.Translate.{translate-here, translate-past, hides-all}
-use Rattle.model.proofs.Chain.{Chain}
-use Rattle.model.proofs.Table.{top, rules-chain-all, table-says}
+use Rattle.model.proofs.Table.{top, table-says}
 use Rattle.model.proofs.Rows.{Passed, answered-passed, passes}
 use Rattle.model.proofs.Groups.{table-passed}
 
@@ -129,12 +128,6 @@ sight-past s m ms x _ h (of-end k) = of-end all
     all o (List·Memᴰ·head e) = omega (arith, ap (λ (k : Mapping). end k) e)
     all o (List·Memᴰ·tail i) = k o i
 
--- the mappings of a chain start at or behind its start
-pub chain-from : (s : Space) (from to : ℕ) (ms : List Mapping) → Chain s from to ms → Each (λ m. from ≤ m .address) ms
-chain-from s from to [] c = tt
-chain-from s from to (m ∷ ms) c =
-    (c .0 .start, each-map (λ n. end m ≤ n .address) (λ n. from ≤ n .address) ms (λ n l. omega (arith, c .0 .start)) (chain-from s (end m) to ms (c .1)))
-
 pub see-none : (s : Space) (x : ℕ) → InSpace s x → see s [] x ≡ nothing (top s - x)
 unfolding translate runEnd
 see-none s x i = ap nothing (bytes-inside s x i (top s))
@@ -167,17 +160,14 @@ module _ (s : Space) (m : Mapping) (ms : List Mapping) (x : ℕ) (a : Each (λ n
       let e : runEnd (top s) (m ∷ ms) x ≡ m .address = omega (arith, runEnd-before (top s) m ms x h, runEnd-behind (top s) (end m) x ms (omega arith) a) in
       ap₂ shows (hides-all (m ∷ ms) x free-before) (bytes-inside s x i (runEnd (top s) (m ∷ ms) x) ∙ ap (λ (e : ℕ). e - x) e)
 
-sees : (s : Space) (from : ℕ) (ms : List Mapping) (x : ℕ) → Chain s from (top s) ms → InSpace s x → Sight s ms x (see s ms x)
-sees s from [] x c i = subst (Sight s [] x) (sym (see-none s x i)) (of-end (λ m k. absurd (List·Memᴰ·not-nil k)))
-sees s from (m ∷ ms) x c i = go (stands m x) (sees s (end m) ms x (c .1) i)
+sees : (s : Space) (ms : List Mapping) (x : ℕ) → TableRules s ms → InSpace s x → Sight s ms x (see s ms x)
+sees s [] x r i = subst (Sight s [] x) (sym (see-none s x i)) (of-end (λ m k. absurd (List·Memᴰ·not-nil k)))
+sees s (m ∷ ms) x r i = go (stands m x) (sees s ms x (r .0 .1, r .1 .1) i)
   where
-    others : Each (λ n. end m ≤ n .address) ms
-    others = chain-from s (end m) (top s) ms (c .1)
-
     go : Stands m x → Sight s ms x (see s ms x) → Sight s (m ∷ ms) x (see s (m ∷ ms) x)
     go (before h) ih =
-        subst (Sight s (m ∷ ms) x) (sym (see-before s m ms x others h i (c .0 .high)))
-        (of-next m (free-before s m ms x others h) (next-first s m ms x others h))
+        subst (Sight s (m ∷ ms) x) (sym (see-before s m ms x (r .1 .0) h i (r .0 .0 .within .1)))
+        (of-next m (free-before s m ms x (r .1 .0) h) (next-first s m ms x (r .1 .0) h))
     go (inside b) ih = subst (Sight s (m ∷ ms) x) (sym (see-inside s m ms x i b)) (of-mapping m (List·Memᴰ·head refl) b)
     go (behind h) ih = rw (see-past s m ms x h) (sight-past s m ms x _ h ih)
 
@@ -197,7 +187,7 @@ module _ (s : Space) (ms : List Mapping) (r : TableRules s ms) where
   within m i = each-mem (MappingRules s) ms m (r .0) i
 
   seen : (x : ℕ) → InSpace s x → Sight s ms x (see s ms x)
-  seen x i = sees s 0 ms x (rules-chain-all s ms r) i
+  seen x i = sees s ms x r i
 
   pub see-mapped : (x : ℕ) (m : Mapping) → m ∈ ms → Has m x → see s ms x ≡ bytes-of m x
   see-mapped x m i b = go (seen x (omega (arith, within m i .within .0), omega (arith, within m i .within .1)))

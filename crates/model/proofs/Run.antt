@@ -20,16 +20,16 @@ pub run-from : (a from : ℕ) (ms : List Mapping) → Run from ms → a ≤ from
 run-from a from [] h k = tt
 run-from a from (m ∷ ms) h k = (omega arith, run-from a (end m) ms (h .2) (omega arith))
 
-starts : (a from : ℕ) (ms : List Mapping) → Run from ms → a ≤ from → Each (λ m. a ≤ m .address) ms
-starts a from ms h k = each-map (λ m. (a ≤ m .address) × (0 < m .size)) (λ m. a ≤ m .address) ms (λ m l. l .0) (run-from a from ms h k)
+pub run-starts : (a from : ℕ) (ms : List Mapping) → Run from ms → a ≤ from → Each (λ m. a ≤ m .address) ms
+run-starts a from ms h k = each-map (λ m. (a ≤ m .address) × (0 < m .size)) (λ m. a ≤ m .address) ms (λ m l. l .0) (run-from a from ms h k)
 
 pub run-ascends : (from : ℕ) (ms : List Mapping) → Run from ms → Ascends ms
 run-ascends from [] h = tt
-run-ascends from (m ∷ ms) h = (starts (end m) (end m) ms (h .2) (omega arith), run-ascends (end m) ms (h .2))
+run-ascends from (m ∷ ms) h = (run-starts (end m) (end m) ms (h .2) (omega arith), run-ascends (end m) ms (h .2))
 
 -- nothing of a run is under its start, and all of it is from there on
 pub below-none : (a from : ℕ) (ms : List Mapping) → Run from ms → a ≤ from → below a ms ≡ []
-below-none a from ms h k = below-over a ms (starts a from ms h k)
+below-none a from ms h k = below-over a ms (run-starts a from ms h k)
 
 pub above-all : (b from : ℕ) (ms : List Mapping) → Run from ms → b ≤ from → above b ms ≡ ms
 above-all b from ms h k = above-over b ms (run-from b from ms h k)

@@ -100,7 +100,7 @@ chain-good s from to (m ∷ ms) h = go (bad-first s from m ms) (chain-good s (en
 pub good-chain : (s : Space) (ms : List Mapping) → badPlace s 0 ms ≡ length ms → Chain s 0 (top s) ms
 good-chain s ms e = subst (Chain s 0 (top s)) (ap (λ (n : ℕ). take n ms) e ∙ take-length ms) (before-bad s 0 ms (omega arith))
 
-pub rules-chain-all : (s : Space) (ms : List Mapping) → TableRules s ms → Chain s 0 (top s) ms
+rules-chain-all : (s : Space) (ms : List Mapping) → TableRules s ms → Chain s 0 (top s) ms
 rules-chain-all s ms r = rules-chain s 0 ms (omega arith) (each (λ n. 0 ≤ n .address) ms (λ n i. omega arith)) r
 
 pub rules-run : (s : Space) (ms : List Mapping) → TableRules s ms → Run 0 ms

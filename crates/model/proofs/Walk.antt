@@ -13,9 +13,10 @@ use Rattle.model.specs.Exactly.{MappingRules, TableRules}
 use Rattle.model.specs.Lookups.{InSpace, shownRun, walk, walkEnd, Walk}
 use Rattle.model.proofs.Numbers.{order}
 use Rattle.model.proofs.Actions.{each, each-mem}
-use Rattle.model.proofs.Chain.{Chain}
+use Rattle.model.proofs.Run.{run-starts}
+use Rattle.model.proofs.Chain.{Chain, chain-run}
 use Rattle.model.proofs.Table.{top, rules-chain}
-use Rattle.model.proofs.Lookups.{bytes-outside, see-past, see-none, see-inside, see-before, chain-from}
+use Rattle.model.proofs.Lookups.{bytes-outside, see-past, see-none, see-inside, see-before}
 
 -- one look-up more
 module _ (s : Space) (ms : List Mapping) (x : ℕ) {v : Seen} (e : see s ms x ≡ v) (n : ℕ) where
@@ -85,7 +86,7 @@ walk-from s x (m ∷ ms) n l c h = go (λ k. walk-from s (end m) ms k (omega (ar
         → Seen-all n s (m ∷ ms) x
     go ih (suc n) (inl g) h = let e : x ≡ m .address = omega (arith, c .0 .start) in rw e (here n (ih n (omega arith)))
     go ih (suc (suc n)) (inr g) h =
-        let e = see-before s m ms x (chain-from s (end m) (top s) ms (c .1)) g (l, omega (arith, c .0 .high)) (c .0 .high) in
+        let e = see-before s m ms x (run-starts (end m) (end m) ms (chain-run s (end m) (top s) ms (c .1)) (omega arith)) g (l, omega (arith, c .0 .high)) (c .0 .high) in
         let k = here n (ih n (omega arith)) in
         let q : x + (m .address - x) ≡ m .address = omega arith in
         (walk-on s (m ∷ ms) x e (suc n) ∙ ap (walk (suc n) s (m ∷ ms)) q ∙ k .0, end-on s (m ∷ ms) x e (suc n) ∙ ap (walkEnd (suc n) s (m ∷ ms)) q ∙ k .1)
