@@ -25,24 +25,24 @@ use Rattle.model.proofs.Groups.{table-passed}
 -- ── where the answer ends, with a mapping in front of others ──
 
 module _ (to : ℕ) (m : Mapping) (ms : List Mapping) (x : ℕ) where
-  pub runEnd-here : Has m x → runEnd to (m ∷ ms) x ≡ end m
+  runEnd-here : Has m x → runEnd to (m ∷ ms) x ≡ end m
   unfolding runEnd
   runEnd-here i = rw (all-true (insideTests m x) (omega tests))
 
-  pub runEnd-before : x < m .address → runEnd to (m ∷ ms) x ≡ min (m .address) (runEnd to ms x)
+  runEnd-before : x < m .address → runEnd to (m ∷ ms) x ≡ min (m .address) (runEnd to ms x)
   unfolding runEnd
   runEnd-before h = rw (all-false (insideTests m x) (λ t. omega tests), lt-ltb x (m .address) h)
 
-  pub runEnd-past : end m ≤ x → runEnd to (m ∷ ms) x ≡ runEnd to ms x
+  runEnd-past : end m ≤ x → runEnd to (m ∷ ms) x ≡ runEnd to ms x
   unfolding runEnd
   runEnd-past h = rw (all-false (insideTests m x) (λ t. omega tests), le-ltb x (m .address) (omega arith))
 
-pub runEnd-none : (to x : ℕ) → runEnd to [] x ≡ to
+runEnd-none : (to x : ℕ) → runEnd to [] x ≡ to
 unfolding runEnd
 runEnd-none to x = refl
 
 -- mappings that all start at or behind an address behind x have no say below it
-pub runEnd-behind : (to a x : ℕ) (ms : List Mapping) → x < a → Each (λ m. a ≤ m .address) ms → min a (runEnd to ms x) ≡ min a to
+runEnd-behind : (to a x : ℕ) (ms : List Mapping) → x < a → Each (λ m. a ≤ m .address) ms → min a (runEnd to ms x) ≡ min a to
 runEnd-behind to a x [] h k = ap (min a) (runEnd-none to x)
 runEnd-behind to a x (m ∷ ms) h k =
     let e = runEnd-before to m ms x (omega (arith, k .0)) in
@@ -51,7 +51,7 @@ runEnd-behind to a x (m ∷ ms) h k =
 -- ── the bytes up to there ──
 
 module _ (s : Space) (x : ℕ) where
-  pub bytes-inside : InSpace s x → (to : ℕ) → bytesTo s to x ≡ to - x
+  bytes-inside : InSpace s x → (to : ℕ) → bytesTo s to x ≡ to - x
   bytes-inside i to = rw (all-true (inSpaceTests s x) (omega tests))
 
   pub bytes-outside : (InSpace s x → ⊥) → (to : ℕ) → bytesTo s to x ≡ 0
@@ -91,12 +91,12 @@ module _ (s : Space) (m : Mapping) (ms : List Mapping) (x : ℕ) where
 -- ── what decides ──
 
 -- where x stands to a mapping
-pub data Stands (m : Mapping) (x : ℕ) : Type 0 where
+data Stands (m : Mapping) (x : ℕ) : Type 0 where
   before : x < m .address → Stands m x
   inside : Has m x → Stands m x
   behind : end m ≤ x → Stands m x
 
-pub stands : (m : Mapping) (x : ℕ) → Stands m x
+stands : (m : Mapping) (x : ℕ) → Stands m x
 stands m x = go (order (m .address) x) (order (end m) x)
   where
     go : (m .address ≤ x) ⊎ (x < m .address) → (end m ≤ x) ⊎ (x < end m) → Stands m x
@@ -132,7 +132,7 @@ pub see-none : (s : Space) (x : ℕ) → InSpace s x → see s [] x ≡ nothing 
 unfolding translate runEnd
 see-none s x i = ap nothing (bytes-inside s x i (top s))
 
--- the first mapping of a chain: x inside it, or before it
+-- x inside a mapping in front of others
 pub see-inside : (s : Space) (m : Mapping) (ms : List Mapping) (x : ℕ) → InSpace s x → Has m x
     → see s (m ∷ ms) x ≡ bytes-of m x
 see-inside s m ms x i b =
@@ -189,7 +189,7 @@ module _ (s : Space) (ms : List Mapping) (r : TableRules s ms) where
   seen : (x : ℕ) → InSpace s x → Sight s ms x (see s ms x)
   seen x i = sees s ms x r i
 
-  pub see-mapped : (x : ℕ) (m : Mapping) → m ∈ ms → Has m x → see s ms x ≡ bytes-of m x
+  see-mapped : (x : ℕ) (m : Mapping) → m ∈ ms → Has m x → see s ms x ≡ bytes-of m x
   see-mapped x m i b = go (seen x (omega (arith, within m i .within .0), omega (arith, within m i .within .1)))
     where
       go : {v : Seen} → Sight s ms x v → v ≡ bytes-of m x
@@ -197,7 +197,7 @@ module _ (s : Space) (ms : List Mapping) (r : TableRules s ms) where
       go (of-next n f k) = absurd (f m i b)
       go (of-end k) = absurd (omega (arith, k m i))
 
-  pub see-next : (x : ℕ) → InSpace s x → Free ms x → (m : Mapping) → Next ms x m → see s ms x ≡ nothing (m .address - x)
+  see-next : (x : ℕ) → InSpace s x → Free ms x → (m : Mapping) → Next ms x m → see s ms x ≡ nothing (m .address - x)
   see-next x i f m k = go (seen x i)
     where
       go : {v : Seen} → Sight s ms x v → v ≡ nothing (m .address - x)
@@ -205,7 +205,7 @@ module _ (s : Space) (ms : List Mapping) (r : TableRules s ms) where
       go (of-next n g l) = ap (λ (a : ℕ). nothing (a - x)) (omega (arith, k .nearest n (l .member) (l .behind), l .nearest m (k .member) (k .behind)))
       go (of-end l) = absurd (omega (arith, k .behind, l m (k .member)))
 
-  pub see-end : (x : ℕ) → InSpace s x → ((m : Mapping) → m ∈ ms → end m ≤ x) → see s ms x ≡ nothing (top s - x)
+  see-end : (x : ℕ) → InSpace s x → ((m : Mapping) → m ∈ ms → end m ≤ x) → see s ms x ≡ nothing (top s - x)
   see-end x i k = go (seen x i)
     where
       go : {v : Seen} → Sight s ms x v → v ≡ nothing (top s - x)
@@ -264,19 +264,29 @@ module _ (s : Space) (ms : List Mapping) (r : TableRules s ms) where
 
 -- ── the public call ──
 
-pub lookup-tells : Lookup
-unfolding lookup
-lookup-tells s t x v e = (
-  rw (w .1) (tells s (mappings t) r x),
-  rw (w .1) (record {
-    same = λ y h. passes (tableRows s [] t) (see s (mappings t) (x + y)) (w .0) ∙ ap answered (same s (mappings t) r x y h);
-    some = some s (mappings t) r x;
-    stops = stops s (mappings t) r x;
-  }),
-)
-  where
-    w : Passed (tableRows s [] t) × (v ≡ see s (mappings t) x)
-    w = answered-passed (tableRows s [] t) (see s (mappings t) x) v e
+-- where one look-up is answered, the table keeps its rules, and every look-up is answered
+module _ (s : Space) (t : Table) (x : ℕ) (v : Seen) (e : lookup s t x ≡ answered v) where
+  passed : Passed (tableRows s [] t) × (v ≡ see s (mappings t) x)
+  unfolding lookup
+  passed = answered-passed (tableRows s [] t) (see s (mappings t) x) v e
 
-    r : TableRules s (mappings t)
-    r = table-says s (mappings t) .0 (table-passed s [] t (w .0) .places)
+  pub answered-rules : TableRules s (mappings t)
+  answered-rules = table-says s (mappings t) .0 (table-passed s [] t (passed .0) .places)
+
+  pub answered-all : (y : ℕ) → lookup s t y ≡ answered (see s (mappings t) y)
+  unfolding lookup
+  answered-all y = passes (tableRows s [] t) (see s (mappings t) y) (passed .0)
+
+  tells-answer : Tells s (mappings t) x v × GoesOn s t x v
+  tells-answer =
+      let r = answered-rules in (
+        subst (Tells s (mappings t) x) (sym (passed .1)) (tells s (mappings t) r x),
+        subst (GoesOn s t x) (sym (passed .1)) (record {
+          same = λ y h. answered-all (x + y) ∙ ap answered (same s (mappings t) r x y h);
+          some = some s (mappings t) r x;
+          stops = stops s (mappings t) r x;
+        }),
+      )
+
+pub lookup-tells : Lookup
+lookup-tells s t x v e = tells-answer s t x v e

@@ -1,8 +1,8 @@
 -- What a look-up tells of a byte address, what a driver uses that for, and a walk over a space from one answer's end to
 -- the next.
 use Rattle.model.specs.Prelude.{_≡_, _⊎_, List, [], _∷_, _++_, ℕ, zero, suc, _+_, _-_, _*_, _≤_, _<_, length, Space, Mapping, Shown, Nothing, Object, Seen}
-use Rattle.model.specs.Calls.{answered, end, Table, mappings, see, lookup}
-use Rattle.model.specs.Exactly.{_∈_, TableRules}
+use Rattle.model.specs.Calls.{Reply, refused, answered, end, Table, mappings, lookup}
+use Rattle.model.specs.Exactly.{_∈_}
 
 -- the mapping has the byte address x; none of the mappings has it
 abbrev pub Has : Mapping → ℕ → Type 0
@@ -62,22 +62,31 @@ Lookup = (s : Space) (t : Table) (x : ℕ) (v : Seen) → lookup s t x ≡ answe
 
 -- ── a walk ──
 
--- n bytes from x on that are answered alike, as a mapping; nothing is none
-abbrev pub shownRun : ℕ → Shown → ℕ → List Mapping
-shownRun x Nothing n = []
-shownRun x (Object o f) n = record { address = x; size = n; object = o; offset = f } ∷ []
+-- what a look-up at x answered, as a mapping of that address and so many bytes; nothing is none
+abbrev pub runFrom : ℕ → Shown → ℕ → List Mapping
+runFrom x Nothing n = []
+runFrom x (Object o f) n = record { address = x; size = n; object = o; offset = f } ∷ []
+
+abbrev pub answeredRun : ℕ → Reply Seen → List Mapping
+answeredRun x (refused n p) = []
+answeredRun x (answered v) = runFrom x (v .shown) (v .bytes)
+
+-- where its answer ends
+abbrev pub answerEnd : ℕ → Reply Seen → ℕ
+answerEnd x (refused n p) = x
+answerEnd x (answered v) = x + v .bytes
 
 -- n look-ups from x on, each where the answer before it ends: the mappings seen, and the address they come to
-unfoldable pub walk : ℕ → Space → List Mapping → ℕ → List Mapping
-walk zero s ms x = []
-walk (suc n) s ms x = shownRun x (see s ms x .shown) (see s ms x .bytes) ++ walk n s ms (x + see s ms x .bytes)
+unfoldable pub walk : ℕ → (ℕ → Reply Seen) → ℕ → List Mapping
+walk zero look x = []
+walk (suc n) look x = answeredRun x (look x) ++ walk n look (answerEnd x (look x))
 
-unfoldable pub walkEnd : ℕ → Space → List Mapping → ℕ → ℕ
-walkEnd zero s ms x = x
-walkEnd (suc n) s ms x = walkEnd n s ms (x + see s ms x .bytes)
+unfoldable pub walkEnd : ℕ → (ℕ → Reply Seen) → ℕ → ℕ
+walkEnd zero look x = x
+walkEnd (suc n) look x = walkEnd n look (answerEnd x (look x))
 
--- over the space it sees every mapping once, whole and in order, and comes to the space's end: no more look-ups than
--- twice the mappings and one
+-- where look-ups are answered, a walk over the space sees every mapping once, whole and in order, and comes to the
+-- space's end: two look-ups for each mapping and one more are enough
 abbrev pub Walk : Type 0
-Walk = (s : Space) (ms : List Mapping) (n : ℕ) → TableRules s ms → 2 * length ms + 1 ≤ n
-    → (walk n s ms (s .start) ≡ ms) × (walkEnd n s ms (s .start) ≡ s .start + s .size)
+Walk = (s : Space) (t : Table) (x n : ℕ) (v : Seen) → lookup s t x ≡ answered v → 2 * length (mappings t) + 1 ≤ n
+    → (walk n (lookup s t) (s .start) ≡ mappings t) × (walkEnd n (lookup s t) (s .start) ≡ s .start + s .size)

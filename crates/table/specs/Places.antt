@@ -8,10 +8,11 @@ use lib.Dec.{ltb}
 use lib.ListN.{length, drop}
 use Rattle.model.specs.declared.Mapping.{Mapping}
 use Rattle.model.specs.declared.Seen.{Seen}
-use Rattle.model.specs.declared.Shown.the-variants.{Nothing, Object}
+use Rattle.model.specs.declared.Shown.the-variants.{Object}
 use Rattle.model.specs.declared.Space.{Space}
 use Rattle.model.specs.Rows.{choose}
 use Rattle.model.specs.Rules.{limit, end}
+use Rattle.model.specs.Lookups.{nothing}
 use Rattle.model.specs.Table.{Table, mappingFrom, mappingsIn, badPlace}
 
 -- a table in a lent slice of words
@@ -41,7 +42,7 @@ endsBehind x m = ltb x (end m)
 -- what is seen at x by the first mapping that ends behind it
 abbrev pub seenBy : Mapping → ℕ → Seen
 seenBy m x = choose (ltb x (m .address))
-    (record { shown = Nothing; bytes = m .address - x })
+    (nothing (m .address - x))
     (record { shown = Object (m .object) (m .offset + (x - m .address)); bytes = end m - x })
 
 -- a table that passed its check: its mappings keep their rules in some space
