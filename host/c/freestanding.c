@@ -29,6 +29,21 @@ void *memset(void *to, int byte, size_t bytes)
     return to;
 }
 
+/* In the hole, up to what is left behind it; and in that, up to its end. */
+static int look_up(waylluqen_space space, const uint64_t *table, size_t table_words, uint64_t count)
+{
+    waylluqen_translation seen = waylluqen_lookup(space, table, table_words, count, 0x101ff8);
+    if (seen.refusal != WAYLLUQEN_OK || seen.shown != WAYLLUQEN_SHOWN_NOTHING || seen.bytes != 8) {
+        return __LINE__;
+    }
+    seen = waylluqen_lookup(space, table, table_words, count, 0x102008);
+    if (seen.refusal != WAYLLUQEN_OK || seen.shown != WAYLLUQEN_SHOWN_OBJECT || seen.object != 7 ||
+        seen.offset != 0x2008 || seen.bytes != 0xff8) {
+        return __LINE__;
+    }
+    return 0;
+}
+
 int run(void)
 {
     static uint64_t table[WAYLLUQEN_TABLE_WORDS(CAPACITY)];
@@ -39,7 +54,6 @@ int run(void)
     const waylluqen_request map = {WAYLLUQEN_OP_MAP, 0x100000, 0x3000, 7, 0};
     uint8_t hole[WAYLLUQEN_RECORD_BYTES] = {WAYLLUQEN_OP_UNMAP};
     waylluqen_answer answer;
-    waylluqen_translation seen;
 
     answer = waylluqen_bind(space, table, table_words, 0, operations, operation_words, map);
     if (answer.refusal != WAYLLUQEN_OK || answer.operations != 1 || answer.count != 1) {
@@ -59,16 +73,5 @@ int run(void)
         operations[WAYLLUQEN_OPERATION_KIND] != WAYLLUQEN_KIND_REMAP) {
         return __LINE__;
     }
-
-    /* In the hole, up to what is left behind it; and in that, up to its end. */
-    seen = waylluqen_lookup(space, table, table_words, answer.count, 0x101ff8);
-    if (seen.refusal != WAYLLUQEN_OK || seen.shown != WAYLLUQEN_SHOWN_NOTHING || seen.bytes != 8) {
-        return __LINE__;
-    }
-    seen = waylluqen_lookup(space, table, table_words, answer.count, 0x102008);
-    if (seen.refusal != WAYLLUQEN_OK || seen.shown != WAYLLUQEN_SHOWN_OBJECT || seen.object != 7 ||
-        seen.offset != 0x2008 || seen.bytes != 0xff8) {
-        return __LINE__;
-    }
-    return 0;
+    return look_up(space, table, table_words, answer.count);
 }
