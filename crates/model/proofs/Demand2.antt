@@ -2,15 +2,14 @@
 -- Assumes nothing.
 use mathlib.Core.Path.{_≡_, sym, ap, subst, _∙_}
 use mathlib.Core.Logic.{_⊎_, inl, inr}
-use mathlib.Core.List.{List, [], flatMap}
-use Prim.Native.Nat.{ℕ, _-_, _*_, _≤_, _<_}
+use mathlib.Core.List.{List, []}
+use Prim.Native.Nat.{ℕ, _≤_, _<_}
 use native.Mathlib.Omega.{arith}
-use lib.ListN.{length, drop, replicate}
-use lib.Seq.{drop-append-seam}
+use lib.ListN.{length}
 use Rattle.model.specs.Prelude.{Space, Mapping, Request, Grant}
 use Rattle.model.specs.Rows.{answered}
 use Rattle.model.specs.Rules.{stop}
-use Rattle.model.specs.Table.{Table, capacity, mappings, wordsOf, written, tableRows}
+use Rattle.model.specs.Table.{Table, capacity, mappings, tableRows}
 use Rattle.model.specs.Cut.{after, translate, see}
 use Rattle.model.specs.Calls.{asked, Outcome, outcomeFor, tableAfter, lookup}
 use Rattle.model.specs.Exactly.{TableRules}
@@ -19,22 +18,15 @@ use Rattle.model.specs.Demand3.{Holds}
 use Rattle.model.proofs.Rows.{passes}
 use Rattle.model.proofs.Groups.{passed-table, none-between}
 use Rattle.model.proofs.Table.{top, chain-rules}
-use Rattle.model.proofs.Store.{rewritten, holds-rewritten, holds-mappings, length-words}
+use Rattle.model.proofs.Store.{rewritten, holds-rewritten, holds-mappings, zeros-behind}
 use Rattle.model.proofs.Ask.{Asked}
 use Rattle.model.proofs.Granted.{Good, Granting, granting, table-chain, after-chain, good-rewritten}
 use Rattle.model.proofs.Translate.{translate-under, translate-over, translate-map, translate-unmap}
 
--- a look-up on a table that passes 1 to 5 is answered
+-- a look-up on a table that passes 1 to 5 and 17 is answered
 pub lookup-good : (s : Space) (n : ℕ) (t : Table) (x : ℕ) → Good s n t → lookup s t x ≡ answered (see s (mappings t) x)
 unfolding lookup
 lookup-good s n t x g = passes (tableRows s [] t) (see s (mappings t) x) (passed-table (none-between g))
-
--- the words behind the last mapping
-zeros-behind : (n : ℕ) (ms : List Mapping) → drop (4 * length ms) (written n ms) ≡ replicate (n - 4 * length ms) 0
-zeros-behind n ms =
-    ap (λ (k : ℕ). drop k (written n ms)) (sym (length-words ms))
-    ∙ drop-append-seam (flatMap wordsOf ms) _
-    ∙ ap (λ (k : ℕ). replicate (n - k) 0) (length-words ms)
 
 effect : (s : Space) (n : ℕ) (r : Request) (t : Table) → Good s n t → Asked s r → Good s n (rewritten t (after r (mappings t)))
     → length (after r (mappings t)) ≤ capacity t → Effect s r t (rewritten t (after r (mappings t)))

@@ -122,18 +122,19 @@ of-lookup s t x =
     subst (λ (ws : List Row). Answers (decide ws v) (lookupRefusals s t x)) (append-nil (tableRows s [] t))
     (match-answers (λ a. a) v (tableRows s [] t ++ []) (lookupRefusals s t x) (table-match v s t [] (λ u. u) (λ vs u m. m) [] _ (λ _. refl)))
 
-lookup-only : (s : Space) (t : Table) (x n p : ℕ) → lookup s t x ≡ refused n p → n ∈ (1 ∷ 2 ∷ 4 ∷ 5 ∷ [])
+lookup-only : (s : Space) (t : Table) (x n p : ℕ) → lookup s t x ≡ refused n p → n ∈ (1 ∷ 2 ∷ 4 ∷ 5 ∷ 17 ∷ [])
 lookup-only s t x n p e = go (of-lookup s t x (refused n p) .0 e)
   where
     number : {a b c d : ℕ} → _≡_ {A = Reply Seen} (refused a b) (refused c d) → a ≡ c
     number e = ap numberOf e
 
-    go : Gives (lookupRefusals s t x) (refused n p) → n ∈ (1 ∷ 2 ∷ 4 ∷ 5 ∷ [])
+    go : Gives (lookupRefusals s t x) (refused n p) → n ∈ (1 ∷ 2 ∷ 4 ∷ 5 ∷ 17 ∷ [])
     go (inl h) = List·Memᴰ·head (number (h .1))
     go (inr (_, inl h)) = List·Memᴰ·tail (List·Memᴰ·head (number (h .1)))
     go (inr (_, inr (_, inl h))) = List·Memᴰ·tail (List·Memᴰ·tail (List·Memᴰ·head (number (h .1))))
     go (inr (_, inr (_, inr (_, inl h)))) = List·Memᴰ·tail (List·Memᴰ·tail (List·Memᴰ·tail (List·Memᴰ·head (number (h .1)))))
-    go (inr (_, inr (_, inr (_, inr h)))) = absurd (not-both (h .1))
+    go (inr (_, inr (_, inr (_, inr (_, inl h))))) = List·Memᴰ·tail (List·Memᴰ·tail (List·Memᴰ·tail (List·Memᴰ·tail (List·Memᴰ·head (number (h .1))))))
+    go (inr (_, inr (_, inr (_, inr (_, inr h))))) = absurd (not-both (h .1))
 
 pub exactly : Exactly
 exactly = record {

@@ -22,9 +22,9 @@ use Rattle.model.proofs.Demand3.{demand-3}
 abbrev space : Space
 space = spaceOf 0 65536 0 0
 
--- [0, 12288) of object 7 and [12288, 16384) of object 8; room for a third, stale words in it
+-- [0, 12288) of object 7 and [12288, 16384) of object 8; room for a third
 abbrev start : Table
-start = record { words = 0 ∷ 12288 ∷ 7 ∷ 0 ∷ 12288 ∷ 4096 ∷ 8 ∷ 0 ∷ replicate 4 3; count = 2 }
+start = record { words = 0 ∷ 12288 ∷ 7 ∷ 0 ∷ 12288 ∷ 4096 ∷ 8 ∷ 0 ∷ replicate 4 0; count = 2 }
 
 -- map [0, 16384) of object 9 from offset 4096 on, cut at 4096 and 8192
 abbrev whole : Request

@@ -1,8 +1,8 @@
--- A table that passes 1 to 5 still does after a granted request was written.
+-- A table that passes 1 to 5 and 17 still does after a granted request was written.
 -- Assumes nothing.
 use mathlib.Core.Path.{_≡_, sym, ap, subst, _∙_}
 use mathlib.Core.List.{List, [], _∷_, _++_}
-use Prim.Native.Nat.{ℕ, zero, suc, _≤_}
+use Prim.Native.Nat.{ℕ, zero, suc, _-_, _*_, _≤_}
 use native.Mathlib.Omega.{arith}
 use lib.Dec.{T, eqb, eqb→eq}
 use lib.ListN.{length}
@@ -16,7 +16,8 @@ use Rattle.model.proofs.Tests.{tests, Alls, eq→eqb}
 use Rattle.model.proofs.Rows.{Passed, passed-split, answered-passed}
 use Rattle.model.proofs.Chain.{Chain, chain-put}
 use Rattle.model.proofs.Table.{top, chain-good, good-chain}
-use Rattle.model.proofs.Store.{rewritten, holds-rewritten, holds-mappings}
+use Rattle.model.proofs.Store.{rewritten, holds-rewritten, holds-mappings, zeros-behind}
+use Rattle.model.proofs.Zeros.{zeros-tests}
 use Rattle.model.proofs.Groups.{TablePassed, table-passed, form-passed, request-passed}
 use Rattle.model.proofs.Ask.{Asked, asked-by}
 use Rattle.model.proofs.Exactly.{answer-is}
@@ -35,7 +36,7 @@ after-chain s r ms a h =
     chain-put s (r .address) (stop r) (top s) (new r) ms h (chain-new s r a)
     (a .high) (a .address-multiple) (omega (arith, a .address-multiple, a .size-multiple))
 
--- ── a table that passes 1 to 5, n words being lent for operations ──
+-- ── a table that passes 1 to 5 and 17, n words being lent for operations ──
 
 abbrev pub Good : Space → ℕ → Table → Type 0
 Good s n t = TablePassed s (operationsRow n t ∷ []) t
@@ -56,6 +57,7 @@ good-rewritten s n t ms g c f =
       others = omega (tests, e, g .others);
       count = (omega (tests, e, f), tt);
       places = (p, tt);
+      behind = rw (zeros-behind (length (t .words)) ms) (zeros-tests (length (t .words) - 4 * length ms));
     }
 
 -- ── what a grant says ──

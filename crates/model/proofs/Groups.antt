@@ -7,13 +7,14 @@ use Prim.Native.Nat.{ℕ, _<_}
 use Rattle.model.specs.Prelude.{Space, Request}
 use Rattle.model.specs.Rows.{Row, Reply, refused}
 use Rattle.model.specs.Rules.{spaceTests, spaceRow, opRow, flagsRow, alignmentRow, insideRow, reservationRow, objectRow, offsetRow, formRows, requestRows}
-use Rattle.model.specs.Table.{Table, mappings, lengthRow, operationsRow, countRow, mappingsRow, contentRows, tableRows}
+use Rattle.model.specs.Table.{Table, mappings, lengthRow, operationsRow, countRow, mappingsRow, staleRow, contentRows, tableRows}
 use Rattle.model.specs.Exactly.{Each, RefusalTable, formLines, requestLines, contentLines, tableLines, operationsLine, TableRules}
 use Rattle.model.proofs.Tests.{tests, Alls}
 use Rattle.model.proofs.Actions.{each-append}
 use Rattle.model.proofs.Rows.{Passed, passed-split, passed-join, Match}
 use Rattle.model.proofs.Rules.{apart-shares, shares-apart, space-says, object-says, offset-says}
 use Rattle.model.proofs.Table.{table-says}
+use Rattle.model.proofs.Zeros.{stale-says}
 
 -- ── groups that pass ──
 
@@ -23,6 +24,7 @@ pub record TablePassed (s : Space) (between : List Row) (t : Table) : Type 0 whe
   pub others : Passed between
   pub count : Alls (countRow t .tests)
   pub places : Alls (mappingsRow s t .tests)
+  pub behind : Alls (staleRow t .tests)
 
 pub record FormPassed (r : Request) : Type 0 where
   pub op : Alls (opRow r .tests)
@@ -40,16 +42,18 @@ unfolding tableRows
 table-passed s between t (one, (two, rest)) = go (passed-split between (contentRows s t) rest)
   where
     go : Passed between × Passed (contentRows s t) → TablePassed s between t
-    go (others, (four, (five, _))) = record { space = one; length-right = two; others = others; count = four; places = five }
+    go (others, (four, (five, (stale, _)))) =
+        record { space = one; length-right = two; others = others; count = four; places = five; behind = stale }
 
 pub passed-table : {s : Space} {between : List Row} {t : Table} → TablePassed s between t → Passed (tableRows s between t)
 unfolding tableRows
 passed-table {s} {between} {t} p =
-    (p .space, (p .length-right, passed-join between (contentRows s t) (p .others) (p .count, (p .places, tt))))
+    (p .space, (p .length-right, passed-join between (contentRows s t) (p .others) (p .count, (p .places, (p .behind, tt)))))
 
 -- a call that has nothing between passes too
 pub none-between : {s : Space} {between : List Row} {t : Table} → TablePassed s between t → TablePassed s [] t
-none-between p = record { space = p .space; length-right = p .length-right; others = tt; count = p .count; places = p .places }
+none-between p =
+    record { space = p .space; length-right = p .length-right; others = tt; count = p .count; places = p .places; behind = p .behind }
 
 pub form-passed : (r : Request) → Passed (formRows r) → FormPassed r
 unfolding formRows
@@ -71,10 +75,11 @@ passed-request p = (p .alignment, (p .range, (p .reservation, (p .object, (p .of
 -- ── what holds of each row of a group ──
 
 module _ (P : Row → Type 0) where
-  pub each-table : (s : Space) (between : List Row) (t : Table) → P (spaceRow s) → P (lengthRow t) → Each P between → P (countRow t) → P (mappingsRow s t)
+  pub each-table : (s : Space) (between : List Row) (t : Table) → P (spaceRow s) → P (lengthRow t) → Each P between → P (countRow t) → P (mappingsRow s t) → P (staleRow t)
       → Each P (tableRows s between t)
   unfolding tableRows
-  each-table s between t one two others four five = (one, (two, each-append P between (contentRows s t) others (four, (five, tt))))
+  each-table s between t one two others four five stale =
+      (one, (two, each-append P between (contentRows s t) others (four, (five, (stale, tt)))))
 
   pub each-form : (r : Request) → P (opRow r) → P (flagsRow r) → Each P (formRows r)
   unfolding formRows
@@ -120,7 +125,7 @@ module _ {A : Type 0} (a : A) where
   content-match : (s : Space) (t : Table) (ws : List Row) (rest : RefusalTable (Reply A)) → (TableRules s (mappings t) → Matches ws rest)
       → Matches (contentRows s t ++ ws) (contentLines s t rest)
   content-match s t ws rest m =
-      (refl, (λ h. omega tests, λ h. omega tests), λ _. (refl, table-says s (mappings t), m))
+      (refl, (λ h. omega tests, λ h. omega tests), λ _. (refl, table-says s (mappings t), λ five. (refl, stale-says t, λ _. m five)))
 
   -- with rows between that match lines between
   pub table-match : (s : Space) (t : Table) (between : List Row) (lines : RefusalTable (Reply A) → RefusalTable (Reply A))

@@ -19,6 +19,7 @@ pub mod Rules
 pub mod Chain
 pub mod Table
 pub mod Store
+pub mod Zeros
 pub mod Cuts
 pub mod Pieces
 pub mod Sort

@@ -8,7 +8,7 @@ use Rattle.model.specs.Rows.{Reply, refused, answered}
 use Rattle.model.specs.Calls.{numbered, verdictReply, decodedReply, answerReply, foundReply}
 use Rattle.model.specs.Exactly.{Pins, Pinned}
 use Rattle.model.specs.declared.Refusal.{Refusal}
-use Rattle.model.specs.declared.Refusal.the-variants.{BadSpace, BadTableLength, ShortOperations, BadCount, BadMapping, Unaligned, OutsideSpace, Reserved, BadObject, BadOffset, NoRoom, BadRecordLength, BadOp, BadFlags}
+use Rattle.model.specs.declared.Refusal.the-variants.{BadSpace, BadTableLength, ShortOperations, BadCount, BadMapping, Unaligned, OutsideSpace, Reserved, BadObject, BadOffset, NoRoom, BadRecordLength, BadOp, BadFlags, StaleWords}
 use Rattle.model.specs.declared.Verdict.{Verdict}
 use Rattle.model.specs.declared.Verdict.the-variants.{Pass, Refuse as VerdictRefuse}
 use Rattle.model.specs.declared.Decoded.{Decoded}
@@ -22,7 +22,9 @@ abbrev pub refusals : ℕ → List Refusal
 refusals p =
     BadSpace ∷ BadTableLength ∷ ShortOperations ∷ BadCount ∷ BadMapping p
     ∷ Unaligned ∷ OutsideSpace ∷ Reserved ∷ BadObject ∷ BadOffset ∷ NoRoom
-    ∷ BadRecordLength ∷ BadOp ∷ BadFlags ∷ []
+    ∷ BadRecordLength ∷ BadOp ∷ BadFlags
+    -- nothing is refused by 15 and 16 yet
+    ∷ BadSpace ∷ BadSpace ∷ StaleWords ∷ []
 
 abbrev pub named : ℕ → ℕ → Refusal
 named n p = getD (refusals p) (n - 1) BadSpace
@@ -42,6 +44,7 @@ named-numbered NoRoom = refl
 named-numbered BadRecordLength = refl
 named-numbered BadOp = refl
 named-numbered BadFlags = refl
+named-numbered StaleWords = refl
 
 -- an enum with two kinds of case: its reading, read back
 abbrev back : {A B : Type 0} → (A → B) → (Refusal → B) → Reply A → B

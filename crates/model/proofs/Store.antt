@@ -4,7 +4,8 @@ use mathlib.Core.Path.{_≡_, refl, sym, ap, ap₂, _∙_}
 use mathlib.Core.List.{List, [], _∷_, _++_, flatMap}
 use Prim.Native.Nat.{ℕ, zero, suc, _+_, _-_, _*_, _/_, _≤_}
 use native.Mathlib.Omega.{arith}
-use lib.ListN.{length, length-append, length-replicate}
+use lib.ListN.{length, drop, replicate, length-append, length-replicate}
+use lib.Seq.{drop-append-seam}
 use Rattle.model.specs.Prelude.{Mapping}
 use Rattle.model.specs.Table.{Table, capacity, mappings, mappingsIn, wordsOf, written}
 use Rattle.model.specs.Demand3.{Holds}
@@ -32,6 +33,13 @@ pub length-mappings : (n : ℕ) (ws : List ℕ) → length (mappingsIn n ws) ≡
 unfolding mappingsIn
 length-mappings zero ws = refl
 length-mappings (suc n) ws = ap suc (length-mappings n _)
+
+-- the words behind the last mapping
+pub zeros-behind : (n : ℕ) (ms : List Mapping) → drop (4 * length ms) (written n ms) ≡ replicate (n - 4 * length ms) 0
+zeros-behind n ms =
+    ap (λ (k : ℕ). drop k (written n ms)) (sym (length-words ms))
+    ∙ drop-append-seam (flatMap wordsOf ms) _
+    ∙ ap (λ (k : ℕ). replicate (n - k) 0) (length-words ms)
 
 -- ── a table that holds mappings ──
 

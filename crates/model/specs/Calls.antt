@@ -6,7 +6,7 @@ pub use Rattle.model.specs.Table.{Table, capacity, mappings, written, ba
 pub use Rattle.model.specs.Cut.{mappingOf, new, after, operations, restsOf, old, rests, translate, see}
 pub use Rattle.model.specs.Layout.{operationWords}
 use Rattle.model.specs.declared.Refusal.{Refusal}
-use Rattle.model.specs.declared.Refusal.the-variants.{BadSpace, BadTableLength, ShortOperations, BadCount, BadMapping, Unaligned, OutsideSpace, Reserved, BadObject, BadOffset, NoRoom, BadRecordLength, BadOp, BadFlags}
+use Rattle.model.specs.declared.Refusal.the-variants.{BadSpace, BadTableLength, ShortOperations, BadCount, BadMapping, Unaligned, OutsideSpace, Reserved, BadObject, BadOffset, NoRoom, BadRecordLength, BadOp, BadFlags, StaleWords}
 use Rattle.model.specs.declared.Verdict.{Verdict}
 use Rattle.model.specs.declared.Verdict.the-variants.{Pass, Refuse as VerdictRefuse}
 use Rattle.model.specs.declared.Decoded.{Decoded}
@@ -72,7 +72,7 @@ decode bs = decide (recordRows bs) (requestOf bs)
 abbrev pub roomRow : Table → Request → Row
 roomRow t r = row 11 (leb (length (after r (mappings t))) (capacity t) ∷ [])
 
--- 12, 13, 14, 1, 2, 3, 4, 5, 6, 7, 8, 9, 10, 11, with n words lent for operations
+-- 12, 13, 14, 1, 2, 3, 4, 5, 17, 6, 7, 8, 9, 10, 11, with n words lent for operations
 unfoldable pub bindRows : Space → Table → ℕ → Asking → List Row
 bindRows s t n q =
     recordRow q ∷ (formRows (asked q)
@@ -110,7 +110,7 @@ countAfter (answered g) count = g .count
 abbrev pub tableAfter : Table → Outcome → Table
 tableAfter t o = record { words = o .table; count = countAfter (o .answer) (t .count) }
 
--- a look-up, for any input: 1, 2, 4, 5, or what the address shows and how far; it writes nowhere
+-- a look-up, for any input: 1, 2, 4, 5, 17, or what the address shows and how far; it writes nowhere
 unfoldable pub lookup : Space → Table → ℕ → Reply Seen
 lookup s t x = decide (tableRows s [] t) (see s (mappings t) x)
 
@@ -148,6 +148,7 @@ numbered NoRoom = (11, 0)
 numbered BadRecordLength = (12, 0)
 numbered BadOp = (13, 0)
 numbered BadFlags = (14, 0)
+numbered StaleWords = (17, 0)
 
 abbrev pub refusalReply : {A : Type 0} → Refusal → Reply A
 refusalReply w = refused (numbered w .0) (numbered w .1)

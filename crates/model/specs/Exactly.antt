@@ -1,6 +1,6 @@
 -- The papers' rules in words; their numbers are written out, but for the most mappings of a table. A call gives a
 -- line's answer exactly if its rule is broken and no line's above it.
-use Rattle.model.specs.Prelude.{_≡_, _⊎_, _↔_, List, [], _∷_, flatMap, List·Memᴰ, ℕ, suc, _+_, _*_, _/_, _%_, _^_, _≤_, _<_, pos, _-ℤ_, length, take, Space, Mapping, Request, Seen, Grant}
+use Rattle.model.specs.Prelude.{_≡_, _⊎_, _↔_, List, [], _∷_, flatMap, List·Memᴰ, ℕ, suc, _+_, _*_, _/_, _%_, _^_, _≤_, _<_, pos, _-ℤ_, length, getD, take, Space, Mapping, Request, Seen, Grant}
 use Rattle.model.specs.Calls.{Reply, refused, answered, mostMappings, end, stop, requestOf, recordOf, Table, mappings, badPlace, operations, old, rests, see, Asking, numbers, bytes, asked, grantOf, bind, lookup, checkRequest, verdictReply, decodedReply, answerReply, foundReply}
 
 infix 40 _∈_ _⊆_
@@ -90,11 +90,16 @@ abbrev pub WellFormed : Asking → Type 0
 WellFormed (numbers op address size object offset) = Unit {0}
 WellFormed (bytes bs) = length bs ≡ 40
 
--- 1, 2, what the call has between, 4, 5: the lines of every call on a table
+-- document 02: every word behind the last mapping is zero
+abbrev pub ZerosBehind : Table → Type 0
+ZerosBehind t = (i : ℕ) → 4 * t .count ≤ i → i < length (t .words) → getD (t .words) i 0 ≡ 0
+
+-- 1, 2, what the call has between, 4, 5, 17: the lines of every call on a table
 abbrev pub contentLines : {A : Type 0} → Space → Table → RefusalTable (Reply A) → RefusalTable (Reply A)
 contentLines s t rest =
     line (refusal 4) (t .count ≤ length (t .words) / 4)
-    (line (refused 5 (badPlace s 0 (mappings t))) (TableRules s (mappings t)) rest)
+    (line (refused 5 (badPlace s 0 (mappings t))) (TableRules s (mappings t))
+    (line (refusal 17) (ZerosBehind t) rest))
 
 abbrev pub tableLines : {A : Type 0} → Space → (RefusalTable (Reply A) → RefusalTable (Reply A)) → Table
     → RefusalTable (Reply A) → RefusalTable (Reply A)
@@ -137,7 +142,7 @@ pub record Exactly : Type 0 where
   -- a refusal changes no lent word
   pub unchanged : (s : Space) (t : Table) (os : List ℕ) (q : Asking) (n p : ℕ) → bind s t os q .answer ≡ refused n p
       → (bind s t os q .table ≡ t .words) × (bind s t os q .operations ≡ os)
-  pub lookup-only : (s : Space) (t : Table) (x n p : ℕ) → lookup s t x ≡ refused n p → n ∈ (1 ∷ 2 ∷ 4 ∷ 5 ∷ [])
+  pub lookup-only : (s : Space) (t : Table) (x n p : ℕ) → lookup s t x ≡ refused n p → n ∈ (1 ∷ 2 ∷ 4 ∷ 5 ∷ 17 ∷ [])
 
 -- what comes is what was asked: a request whose numbers fit a record's fields as 40 bytes; one whose flags and pad are
 -- 0 by numbers

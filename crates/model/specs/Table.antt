@@ -1,5 +1,5 @@
 -- A table of mappings in lent words (document 01: Table), and the rows of the refusal table that look at it.
-use Rattle.model.specs.Prelude.{Bool, List, [], _∷_, _++_, flatMap, ℕ, zero, suc, _+_, _-_, _*_, _/_, _%_, leb, ltb, eqb, length, getD, drop, replicate, Space, Mapping}
+use Rattle.model.specs.Prelude.{Bool, List, [], _∷_, _++_, map, flatMap, ℕ, zero, suc, _+_, _-_, _*_, _/_, _%_, leb, ltb, eqb, length, getD, drop, replicate, Space, Mapping}
 use Rattle.model.specs.Rows.{all, choose, Row, row}
 use Rattle.model.specs.Rules.{mostMappings, end, mappingTests, spaceRow}
 
@@ -58,10 +58,18 @@ abbrev pub mappingsRow : Space → Table → Row
 mappingsRow s t =
     record { number = 5; place = badPlace s 0 (mappings t); tests = eqb (badPlace s 0 (mappings t)) (length (mappings t)) ∷ [] }
 
--- the rows that look at what a table holds: 4, 5
-abbrev pub contentRows : Space → Table → List Row
-contentRows s t = countRow t ∷ mappingsRow s t ∷ []
+-- each word is zero
+abbrev pub zeroTests : List ℕ → List Bool
+zeroTests ws = map (λ x. eqb x 0) ws
 
--- the rows of every call on a table: 1, 2, what the call has between (a request 3, a look-up nothing), 4, 5
+-- document 02: a word behind the last mapping is not zero
+abbrev pub staleRow : Table → Row
+staleRow t = row 17 (zeroTests (drop (4 * t .count) (t .words)))
+
+-- the rows that look at what a table holds: 4, 5, 17
+abbrev pub contentRows : Space → Table → List Row
+contentRows s t = countRow t ∷ mappingsRow s t ∷ staleRow t ∷ []
+
+-- the rows of every call on a table: 1, 2, what the call has between (a request 3, a look-up nothing), 4, 5, 17
 unfoldable pub tableRows : Space → List Row → Table → List Row
 tableRows s between t = spaceRow s ∷ lengthRow t ∷ (between ++ contentRows s t)

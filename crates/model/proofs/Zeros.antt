@@ -1,0 +1,40 @@
+-- Words that are zero, as tests and place by place.
+-- Assumes nothing.
+use mathlib.Core.Path.{_≡_, refl, ap₂}
+use mathlib.Core.List.{List, [], _∷_}
+use Prim.Native.Nat.{ℕ, zero, suc, _≤_, _<_}
+use lib.Dec.{eqb→eq}
+use lib.ListN.{length, getD, drop, replicate}
+use Rattle.model.specs.Table.{Table, zeroTests, staleRow}
+use Rattle.model.specs.Exactly.{ZerosBehind}
+use Rattle.model.proofs.Tests.{tests, Alls, Says}
+
+pub tests-zeros : (ws : List ℕ) → Alls (zeroTests ws) → ws ≡ replicate (length ws) 0
+tests-zeros [] h = refl
+tests-zeros (x ∷ xs) h = ap₂ _∷_ (eqb→eq x 0 (h .0)) (tests-zeros xs (h .1))
+
+pub zeros-tests : (n : ℕ) → Alls (zeroTests (replicate n 0))
+zeros-tests zero = tt
+zeros-tests (suc n) = (tt, zeros-tests n)
+
+-- the words from place n on are zero
+abbrev ZeroFrom : ℕ → List ℕ → Type 0
+ZeroFrom n ws = (i : ℕ) → n ≤ i → i < length ws → getD ws i 0 ≡ 0
+
+tests-places : (n : ℕ) (ws : List ℕ) → Alls (zeroTests (drop n ws)) → ZeroFrom n ws
+tests-places n [] h i l k = refl
+tests-places zero (x ∷ xs) h zero l k = eqb→eq x 0 (h .0)
+tests-places zero (x ∷ xs) h (suc i) l k = tests-places zero xs (h .1) i (omega tests) (omega tests)
+tests-places (suc n) (x ∷ xs) h zero l k = absurd (omega tests)
+tests-places (suc n) (x ∷ xs) h (suc i) l k = tests-places n xs h i (omega tests) (omega tests)
+
+places-tests : (n : ℕ) (ws : List ℕ) → ZeroFrom n ws → Alls (zeroTests (drop n ws))
+places-tests zero [] z = tt
+places-tests (suc n) [] z = tt
+places-tests zero (x ∷ xs) z =
+    let e : x ≡ 0 = z zero (omega tests) (omega tests) in
+    (omega tests, places-tests zero xs (λ i h k. z (suc i) (omega tests) (omega tests)))
+places-tests (suc n) (x ∷ xs) z = places-tests n xs (λ i h k. z (suc i) (omega tests) (omega tests))
+
+pub stale-says : (t : Table) → Says (staleRow t .tests) (ZerosBehind t)
+stale-says t = (tests-places _ (t .words), places-tests _ (t .words))
