@@ -15,6 +15,7 @@ use Rattle.model.proofs.Groups.{TablePassed, table-passed, RequestPassed, reque
 use Rattle.model.proofs.Store.{length-mappings}
 use Rattle.model.proofs.Operations.{operations-most}
 use Rattle.table.specs.Places.{ValidIn}
+use Rattle.table.proofs.Words.{behind-says}
 use Rattle.change.specs.Change.{Ready}
 use Rattle.bind.specs.Bound.{checkedRows}
 
@@ -41,7 +42,7 @@ module _ (s : Space) (t : Table) where
   pub valid : answered tt ≡ verdict (tableRows s [] t) → ValidIn s (t .words) (t .count)
   valid e = valid-by (table-passed s [] t (answered-passed (tableRows s [] t) tt tt (sym e) .0))
 
-  -- the rows 1 to 5 of a request, with n words lent for operations
+  -- the rows 1 to 5 and 17 of a request, with n words lent for operations
   abbrev lentRows : ℕ → List Row
   lentRows n = tableRows s (operationsRow n t ∷ []) t
 
@@ -52,12 +53,13 @@ module _ (s : Space) (t : Table) where
       let ask : RequestPassed s r = request-passed s r (p .1) in
       record {
         table = valid-by rows .0;
+        behind = behind-says t .0 (rows .behind);
         not-empty = omega (tests, ask .alignment);
         stop-most = omega (tests, ask .range, rows .space);
         offset-most = offset-most r ask;
         room = λ _. omega (tests, rows .others, rows .count, operations-most r (mappings t), length-mappings (t .count) (t .words));
       }
 
-  -- rows 1 to 5, and those behind them
+  -- rows 1 to 5 and 17, and those behind them
   pub checked-by : (n : ℕ) (r : Request) {u : Reply (Unit {0})} → u ≡ verdict (lentRows n) → andThen u (verdict (requestRows s r)) ≡ verdict (checkedRows s t n r)
   checked-by n r e = rw e (sym (decide-append (lentRows n) (requestRows s r) tt))

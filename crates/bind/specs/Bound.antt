@@ -15,10 +15,10 @@ use Rattle.bind.specs.declared.Numbers.{Numbers}
 abbrev pub numbersOf : Numbers → Asking
 numbersOf q = numbers (q .op) (q .address) (q .size) (q .object) (q .offset)
 
--- the rows 1 to 10, with n words lent for operations
+-- the rows 1 to 5, 17 and 6 to 10, with n words lent for operations
 abbrev pub checkedRows : Space → Table → ℕ → Request → List Row
 checkedRows s t n r = tableRows s (operationsRow n t ∷ []) t ++ requestRows s r
 
--- the rows 1 to 11
+-- and 11
 unfoldable pub bound : Space → Table → List ℕ → Request → Outcome
 bound s t os r = outcomeFor (decide (checkedRows s t (length os) r ++ roomRow t r ∷ []) (grantOf r (mappings t))) r t os

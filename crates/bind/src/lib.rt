@@ -24,7 +24,7 @@ pub struct Numbers {
     pub offset: u64,
 }
 
-// Rows 1, 2, 4 and 5.
+// Rows 1, 2, 4, 5 and 17.
 fn lookup_verdict(s: Space, table: &[u64], count: usize) -> Verdict
     ensures { λ v. ⌜ verdictReply v ≡ verdict (tableRows s [] (lent (now (table .entry)) count)) ⌝ }
 {
@@ -35,7 +35,7 @@ fn lookup_verdict(s: Space, table: &[u64], count: usize) -> Verdict
 }
 
 // What the byte address `x` shows in a table of `count` mappings, and for how many bytes, or the first of the refusals 1,
-// 2, 4 and 5.
+// 2, 4, 5 and 17.
 pub fn lookup(s: Space, table: &[u64], count: usize, x: u64) -> Found
     ensures { λ f. ⌜ foundReply f ≡ lookup s (lent (now (table .entry)) count) x ⌝ }
 {
@@ -45,7 +45,7 @@ pub fn lookup(s: Space, table: &[u64], count: usize, x: u64) -> Found
     }
 }
 
-// Rows 1 to 5, with so many words lent for operations.
+// Rows 1 to 5 and 17, with so many words lent for operations.
 fn lent_verdict(s: Space, table: &[u64], count: usize, operation_words: usize) -> Verdict
     ensures { λ v. ⌜ verdictReply v ≡ verdict (tableRows s (operationsRow «operation_words» (lent (now (table .entry)) count) ∷ []) (lent (now (table .entry)) count)) ⌝ }
 {
@@ -61,7 +61,7 @@ fn lent_verdict(s: Space, table: &[u64], count: usize, operation_words: usize) -
     inspect::contents_verdict(s, table, count)
 }
 
-// Rows 1 to 10.
+// Rows 1 to 5, 17 and 6 to 10.
 fn bind_verdict(
     s: Space,
     table: &[u64],
@@ -77,7 +77,7 @@ fn bind_verdict(
     }
 }
 
-// A request whose form is right: rows 1 to 11.
+// A request whose form is right: rows 1 to 5, 17 and 6 to 11.
 fn bind_request(
     s: Space,
     table: &mut [u64],
@@ -93,8 +93,8 @@ fn bind_request(
     }
 }
 
-// Maps or unmaps a range, by the request's numbers: the first of the refusals 13, 1 to 11, and then no word changes; or a
-// grant, the table as it is afterwards, and the operations for the driver from the first word on.
+// Maps or unmaps a range, by the request's numbers: the first of the refusals 13, 1 to 5, 17, 6 to 11, and then no word
+// changes; or a grant, the table as it is afterwards, and the operations for the driver from the first word on.
 pub fn bind(s: Space, table: &mut [u64], count: usize, operations: &mut [u64], q: Numbers) -> Answer
     ensures { λ a. ⌜ bind s (lent (now (table .entry)) count) (now (operations .entry)) (numbersOf q) ≡ record { answer = answerReply a; table = now (table .exit); operations = now (operations .exit) } ⌝ }
 {
@@ -113,7 +113,7 @@ pub fn bind(s: Space, table: &mut [u64], count: usize, operations: &mut [u64], q
     }
 }
 
-// The same by the bytes of a record: the refusals 12, 13, 14, 1 to 11.
+// The same by the bytes of a record: the refusals 12, 13, 14, 1 to 5, 17, 6 to 11.
 pub fn bind_record(
     s: Space,
     table: &mut [u64],

@@ -10,12 +10,14 @@ use Rattle.model.specs.Rules.{limit, stop}
 use Rattle.model.specs.Table.{Table, capacity, mappings, mappingsIn}
 use Rattle.model.specs.Cut.{after, operations}
 use Rattle.model.specs.Calls.{Outcome, outcomeFor, grantOf, roomRow}
+use Rattle.words.specs.Words.{ZeroFrom}
 use Rattle.table.specs.Places.{firstWhere, startsBehind, endsBehind, Valid}
 
--- a request in order on a table that passed its check; and where the table has room, n words have room for the
--- operations
+-- a request in order on a table that passed its check, with zeros behind its last mapping; and where the table has
+-- room, n words have room for the operations
 pub record Ready (r : Request) (t : Table) (n : ℕ) : Type 0 where
   pub table : Valid (t .words) (t .count)
+  pub behind : ZeroFrom (t .words) (4 * t .count)
   pub not-empty : 0 < r .size
   pub stop-most : stop r ≤ limit
   pub offset-most : r .offset ≤ limit

@@ -5,6 +5,6 @@ use Rattle.model.specs.declared.Space.{Space}
 use Rattle.model.specs.Rows.{Row}
 use Rattle.model.specs.Table.{Table, lengthRow, contentRows}
 
--- 2, 4, 5
+-- 2, 4, 5, 17
 abbrev pub ownRows : Space → Table → List Row
 ownRows s t = lengthRow t ∷ contentRows s t

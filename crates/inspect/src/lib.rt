@@ -1,4 +1,5 @@
-// The check of a table (rows 2, 4 and 5): a quick pass that tells a table in order, and an exact one that finds the place.
+// The check of a table (rows 2, 4, 5 and 17): a quick pass that tells mappings in order, an exact one that finds the place, and
+// a look at the words behind them.
 use model::Mapping;
 use model::Refusal;
 use model::Space;
@@ -136,7 +137,7 @@ pub fn length_is_right(t: &[u64]) -> bool
     (0 < n) & (n % 4 == 0) & (n <= 4 * MOST_MAPPINGS)
 }
 
-// Rows 4 and 5.
+// Rows 4, 5 and 17.
 pub fn contents_verdict(s: Space, t: &[u64], count: usize) -> Verdict
     requires { ⌜ all (spaceTests s) ≡ true ⌝ }
     ensures { λ v. ⌜ verdictReply v ≡ verdict (contentRows s (lent (now (t .entry)) count)) ⌝ }
@@ -148,10 +149,13 @@ pub fn contents_verdict(s: Space, t: &[u64], count: usize) -> Verdict
     if bad != count {
         return Verdict::Refuse(Refusal::BadMapping(bad));
     }
+    if !words::are_zero_from(t, 4 * count) {
+        return Verdict::Refuse(Refusal::StaleWords);
+    }
     Verdict::Pass
 }
 
-// The check of a table: rows 2, 4 and 5.
+// The check of a table: rows 2, 4, 5 and 17.
 pub fn table_verdict(s: Space, t: &[u64], count: usize) -> Verdict
     requires { ⌜ all (spaceTests s) ≡ true ⌝ }
     ensures { λ v. ⌜ verdictReply v ≡ verdict (ownRows s (lent (now (t .entry)) count)) ⌝ }

@@ -32,6 +32,7 @@ pub mod General
 pub mod ByRows
 pub mod Exactly
 pub mod Granted
+pub mod Taken
 pub mod Demand2
 pub mod Lookups
 pub mod Walk

@@ -4,7 +4,7 @@ use mathlib.Core.Path.{_≡_, refl, sym, ap, ap₂, _∙_}
 use mathlib.Core.List.{List, [], _∷_, _++_, flatMap}
 use Prim.Native.Nat.{ℕ, zero, suc, _+_, _-_, _*_, _/_, _≤_}
 use native.Mathlib.Omega.{arith}
-use lib.ListN.{length, drop, replicate, length-append, length-replicate}
+use lib.ListN.{length, take, drop, replicate, length-append, length-replicate}
 use lib.Seq.{drop-append-seam}
 use Rattle.model.specs.Prelude.{Mapping}
 use Rattle.model.specs.Table.{Table, capacity, mappings, mappingsIn, wordsOf, written}
@@ -33,6 +33,18 @@ pub length-mappings : (n : ℕ) (ws : List ℕ) → length (mappingsIn n ws) ≡
 unfolding mappingsIn
 length-mappings zero ws = refl
 length-mappings (suc n) ws = ap suc (length-mappings n _)
+
+-- the other way
+pub words-mappings : (n : ℕ) (ws : List ℕ) → 4 * n ≤ length ws → flatMap wordsOf (mappingsIn n ws) ≡ take (4 * n) ws
+unfolding flatMap mappingsIn
+words-mappings zero ws h = refl
+words-mappings (suc n) [] h = absurd (omega arith)
+words-mappings (suc n) (a ∷ []) h = absurd (omega arith)
+words-mappings (suc n) (a ∷ b ∷ []) h = absurd (omega arith)
+words-mappings (suc n) (a ∷ b ∷ c ∷ []) h = absurd (omega arith)
+words-mappings (suc n) (a ∷ b ∷ c ∷ d ∷ ws) h =
+    let e : 4 * suc n ≡ suc (suc (suc (suc (4 * n)))) = omega arith in
+    rw (e, words-mappings n ws (omega arith))
 
 -- the words behind the last mapping
 pub zeros-behind : (n : ℕ) (ms : List Mapping) → drop (4 * length ms) (written n ms) ≡ replicate (n - 4 * length ms) 0

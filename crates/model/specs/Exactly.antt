@@ -1,7 +1,7 @@
 -- The papers' rules in words; their numbers are written out, but for the most mappings of a table. A call gives a
 -- line's answer exactly if its rule is broken and no line's above it.
-use Rattle.model.specs.Prelude.{_≡_, _⊎_, _↔_, List, [], _∷_, flatMap, List·Memᴰ, ℕ, suc, _+_, _*_, _/_, _%_, _^_, _≤_, _<_, pos, _-ℤ_, length, getD, take, Space, Mapping, Request, Seen, Grant}
-use Rattle.model.specs.Calls.{Reply, refused, answered, mostMappings, end, stop, requestOf, recordOf, Table, mappings, badPlace, operations, old, rests, see, Asking, numbers, bytes, asked, grantOf, bind, lookup, checkRequest, verdictReply, decodedReply, answerReply, foundReply}
+use Rattle.model.specs.Prelude.{_≡_, _⊎_, _↔_, List, [], _∷_, flatMap, List·Memᴰ, ℕ, suc, _+_, _*_, _/_, _%_, _^_, _≤_, _<_, pos, _-ℤ_, length, getD, take, replicate, Space, Mapping, Request, Seen, Grant}
+use Rattle.model.specs.Calls.{Reply, refused, answered, mostMappings, end, stop, requestOf, recordOf, Table, mappings, written, badPlace, operations, old, rests, see, Asking, numbers, bytes, asked, grantOf, bind, lookup, checkRequest, verdictReply, decodedReply, answerReply, foundReply}
 
 infix 40 _∈_ _⊆_
 abbrev pub Each : {A : Type 0} → (A → Type 0) → List A → Type 0
@@ -143,6 +143,15 @@ pub record Exactly : Type 0 where
   pub unchanged : (s : Space) (t : Table) (os : List ℕ) (q : Asking) (n p : ℕ) → bind s t os q .answer ≡ refused n p
       → (bind s t os q .table ≡ t .words) × (bind s t os q .operations ≡ os)
   pub lookup-only : (s : Space) (t : Table) (x n p : ℕ) → lookup s t x ≡ refused n p → n ∈ (1 ∷ 2 ∷ 4 ∷ 5 ∷ 17 ∷ [])
+
+-- document 02: so a table that a call takes is what its mappings write, to the last word; an empty one is zeros
+abbrev pub Whole : Table → Type 0
+Whole t = t .words ≡ written (length (t .words)) (mappings t)
+
+pub record TakesWhole : Type 0 where
+  pub of-bind : (s : Space) (t : Table) (os : List ℕ) (q : Asking) (g : Grant) → bind s t os q .answer ≡ answered g → Whole t
+  pub of-lookup : (s : Space) (t : Table) (x : ℕ) (v : Seen) → lookup s t x ≡ answered v → Whole t
+  pub empty : (t : Table) → Whole t → t .count ≡ 0 → t .words ≡ replicate (length (t .words)) 0
 
 -- what comes is what was asked: a request whose numbers fit a record's fields as 40 bytes; one whose flags and pad are
 -- 0 by numbers

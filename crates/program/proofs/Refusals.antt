@@ -1,27 +1,28 @@
--- A state that the program comes to passes the rows 2, 3, 4 and 5, and a request's part is 40 bytes long: none of these
--- refuses.
+-- A state that the program comes to passes the rows 2, 3, 4, 5 and 17, and a request's part is 40 bytes long: none of
+-- these refuses.
 -- Assumes nothing.
 use mathlib.Core.Path.{_≡_, refl, sym, subst}
 use mathlib.Core.Logic.{_⊎_, inl, inr, ⊎-elim}
 use mathlib.Core.Bool.{Bool, true, false}
 use mathlib.Core.List.{List, [], _∷_, List·Memᴰ·head, List·Memᴰ·tail}
-use Prim.Native.Nat.{ℕ, _≤_}
+use Prim.Native.Nat.{ℕ, _*_, _≤_}
 use lib.Dec.{T, eqb}
 use lib.ListN.{length, length-replicate}
 use borrow.Author.Tests.{eqb-true}
 use Rattle.program.specs.Prelude.{Space, Request, Grant}
 use Rattle.model.specs.Rows.{choose, Row, Reply, refused, answered}
 use Rattle.model.specs.Rules.{spaceRow, formRows, requestRows}
-use Rattle.model.specs.Table.{Table, capacity, mappingsIn, badPlace, lengthRow, operationsRow, countRow, mappingsRow, tableRows}
+use Rattle.model.specs.Table.{Table, capacity, mappingsIn, badPlace, lengthRow, operationsRow, countRow, mappingsRow, staleRow, tableRows}
 use Rattle.model.specs.Calls.{requestOf, bytes, roomRow, bindRows, outcomeFor, countAfter, tableAfter, bind, lookup}
 use Rattle.model.specs.Exactly.{_∈_, Each}
-use Rattle.program.specs.Script.{recordAt, recordSize, State, Told, emptied, granted, shows, refusal, otherMark, cut, ended, toldBy, afterBind, requestIn, bindIn, stepOn, step, start}
+use Rattle.program.specs.Script.{recordAt, recordSize, State, Told, emptied, granted, shows, refusal, otherMark, cut, ended, toldBy, afterBind, requestIn, bindIn, stepOn, step, programMappings, start}
 use Rattle.program.specs.Claims.{Reached, started, stepped, NeverBroken}
 use Rattle.program.specs.declared.ScriptRecord.{ScriptRecord}
 use Rattle.program.specs.declared.ScriptRecord.the-variants.{SetSpace, Bind, LookUp, OtherMark, Cut, End}
 use Rattle.model.proofs.Tests.{tests, Alls}
 use Rattle.model.proofs.Actions.{each-append}
 use Rattle.model.proofs.Rows.{answered-passed, decide-holds, last-row}
+use Rattle.model.proofs.Zeros.{zeros-tests}
 use Rattle.model.proofs.Groups.{table-passed, each-table, each-form, each-request}
 use Rattle.model.proofs.Rules.{space-says}
 use Rattle.model.proofs.Exactly.{exactly}
@@ -38,10 +39,17 @@ record Sound (st : State) : Type 0 where
   operations-fit : Alls (operationsRow (length (st .operations)) (st .table) .tests)
   count : Alls (countRow (st .table) .tests)
   places : Alls (mappingsRow (st .space) (st .table) .tests)
+  behind : Alls (staleRow (st .table) .tests)
 
 sound-start : Sound start
 unfolding mappingsIn badPlace
-sound-start = record { length-right = (tt, (tt, (tt, tt))); operations-fit = (tt, tt); count = (tt, tt); places = (tt, tt) }
+sound-start = record {
+  length-right = (tt, (tt, (tt, tt)));
+  operations-fit = (tt, tt);
+  count = (tt, tt);
+  places = (tt, tt);
+  behind = zeros-tests (4 * programMappings);
+}
 
 sound-space : (st : State) (bs : List ℕ) (s : Space) → recordAt bs ≡ SetSpace s → Sound st → Sound (step st bs .state)
 unfolding mappingsIn badPlace
@@ -53,6 +61,7 @@ sound-space st bs s e h =
       operations-fit = omega (tests, l, h .operations-fit);
       count = omega (tests, l);
       places = (tt, tt);
+      behind = zeros-tests (length (st .table .words));
     }))
     (λ n. rw (sets-space st bs s e .refused (λ r. n .0 (space-says s .1 r))) h) (last-row [] (spaceRow s) (capacity (st .table)) tt)
 
@@ -77,6 +86,7 @@ sound-bind st bs h = go (bindIn st bs .answer) refl
           operations-fit = omega (tests, h .operations-fit, f .zeros .1, w .words .1);
           count = l .count;
           places = l .places;
+          behind = l .behind;
         }
 
 sound-step : (r : ScriptRecord) (st : State) (bs : List ℕ) → recordAt bs ≡ r → Sound st → Sound (step st bs .state)
@@ -125,7 +135,7 @@ Tellable w = Alls (w .tests) ⊎ T (among (w .number) numbers)
 
 table-tellable : (st : State) (between : List Row) → Sound st → Each Tellable between → Each Tellable (tableRows (st .space) between (st .table))
 table-tellable st between h k =
-    each-table Tellable (st .space) between (st .table) (inr tt) (inl (h .length-right)) k (inl (h .count)) (inl (h .places))
+    each-table Tellable (st .space) between (st .table) (inr tt) (inl (h .length-right)) k (inl (h .count)) (inl (h .places)) (inl (h .behind))
 
 bind-allowed : (st : State) (bs : List ℕ) → Sound st → length bs ≡ 40
     → Allowed (toldBy granted (bind (st .space) (st .table) (st .operations) (bytes bs) .answer))

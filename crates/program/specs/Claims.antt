@@ -114,7 +114,7 @@ pub data Reached : State → Type 0 where
   started : Reached start
   stepped : {st : State} → Reached st → (bs : List ℕ) → Reached (step st bs .state)
 
--- no answer is 2, 3, 4 or 5; nor 12, since a request's part is 40 bytes long
+-- no answer is 2, 3, 4, 5 or 17; nor 12, since a request's part is 40 bytes long
 abbrev pub NeverBroken : Type 0
 NeverBroken = (st : State) → Reached st → (bs : List ℕ) (n p : ℕ) → step st bs .told ≡ refusal n p → n ∈ (1 ∷ 6 ∷ 7 ∷ 8 ∷ 9 ∷ 10 ∷ 11 ∷ 13 ∷ 14 ∷ [])
 

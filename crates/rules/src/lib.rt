@@ -198,6 +198,7 @@ pub fn refusal_number(w: Refusal) -> u32
         Refusal::BadRecordLength => 12,
         Refusal::BadOp => 13,
         Refusal::BadFlags => 14,
+        Refusal::StaleWords => 17,
     }
 }
 
@@ -220,5 +221,6 @@ pub fn refusal_place(w: Refusal) -> usize
         Refusal::BadRecordLength => 0,
         Refusal::BadOp => 0,
         Refusal::BadFlags => 0,
+        Refusal::StaleWords => 0,
     }
 }

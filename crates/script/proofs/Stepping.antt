@@ -1,11 +1,11 @@
 -- One step by what the callee that does it answers.
 -- Assumes nothing.
-use mathlib.Core.Path.{_≡_, sym, subst}
+use mathlib.Core.Path.{_≡_, sym, subst, _∙_}
 use mathlib.Core.Bool.{true, false}
 use mathlib.Core.List.{List}
 use Prim.Native.Nat.{ℕ, _-_, _/_, _≤_}
 use native.Mathlib.Omega.{arith}
-use lib.ListN.{length, replicate, length-replicate}
+use lib.ListN.{length, replicate}
 use Rattle.model.specs.declared.Space.{Space}
 use Rattle.model.specs.declared.Answer.{Answer}
 use Rattle.model.specs.declared.Found.{Found}
@@ -17,22 +17,23 @@ use Rattle.model.specs.Calls.{bytes, bind, lookup, answerReply, foundReply}
 use Rattle.program.specs.Script.{recordAt, recordSize, State, emptied, granted, shows, refusal, toldBy, afterBind, requestIn, stepOn, step}
 use Rattle.program.proofs.Records.{record-fits}
 use Rattle.table.specs.Places.{lent}
-use Rattle.words.specs.Words.{cleared}
+use Rattle.words.specs.Words.{stored, cleared}
+use Rattle.words.proofs.Stored.{cleared-stored}
 use Rattle.script.specs.declared.Stepped.{Stepped}
 use Rattle.script.specs.Steps.{stateOf, Steps}
 
-zeros : (ws : List ℕ) → cleared ws 0 ≡ replicate (length ws) 0
+zeros : (ws : List ℕ) → stored ws 0 (replicate (length ws - 0) 0) ≡ replicate (length ws) 0
 unfolding cleared
-zeros ws = let e : length ws - 0 ≡ length ws = omega arith in rw e
+zeros ws = let e : length ws - 0 ≡ length ws = omega arith in cleared-stored ws 0 (omega arith) ∙ rw e
 
 module _ (s : Space) (ws : List ℕ) (count : ℕ) (os bs : List ℕ) where
   abbrev st : State
   st = stateOf s ws count os
 
-  pub space-granted : (new : Space) {ws' : List ℕ} → all (spaceTests new) ≡ true → ws' ≡ cleared ws 0
-      → stepOn (SetSpace new) st bs ≡ record { told = emptied (length ws' / 4); state = stateOf new ws' 0 os }
+  pub space-granted : (new : Space) {ws' : List ℕ} → all (spaceTests new) ≡ true → ws' ≡ stored ws 0 (replicate (length ws - 0) 0)
+      → stepOn (SetSpace new) st bs ≡ record { told = emptied (length ws / 4); state = stateOf new ws' 0 os }
   unfolding decide
-  space-granted new h e = rw (h, e, zeros ws, length-replicate {A = ℕ} (length ws) 0)
+  space-granted new h e = rw (h, e, zeros ws)
 
   pub space-refused : (new : Space) → all (spaceTests new) ≡ false → stepOn (SetSpace new) st bs ≡ record { told = refusal 1 0; state = st }
   unfolding decide

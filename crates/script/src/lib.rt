@@ -110,8 +110,9 @@ fn set_space(s: Space, table: &mut [u64], count: usize, new: Space) -> Stepped
     if !rules::space_keeps_rules(new) {
         return Stepped::new(s, count, Response::Refused(Refusal::BadSpace), SPACE_RECORD);
     }
-    words::clear_from(table, 0);
-    Stepped::new(new, 0, Response::Emptied(table.len() / 4), SPACE_RECORD)
+    let n = table.len();
+    words::clear(table, 0, n);
+    Stepped::new(new, 0, Response::Emptied(n / 4), SPACE_RECORD)
 }
 
 // `RQ`: the request's 40 bytes go to the public call.

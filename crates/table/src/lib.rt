@@ -5,13 +5,13 @@ use model::Shown;
 use model::Space;
 ghost use mathlib.Core.Path.{_≡_};
 ghost use mathlib.Core.List.{[], _∷_, _++_, flatMap};
-ghost use Prim.Native.Nat.{_+_, _*_, _≤_, _<_};
+ghost use Prim.Native.Nat.{_+_, _*_, _≤_, _<_, max};
 ghost use lib.ListN.{length, drop};
 ghost use Rattle.model.specs.Rules.{limit, end};
 ghost use Rattle.model.specs.Table.{mappingFrom, mappingsIn, wordsOf, written};
 ghost use Rattle.model.specs.Cut.{prepend, inSpaceTests, see};
 ghost use Rattle.model.specs.Rows.{all};
-ghost use Rattle.words.specs.Words.{stored, cleared};
+ghost use Rattle.words.specs.Words.{stored, cleared, ZeroFrom};
 ghost use Rattle.table.specs.Halving.{binaryDigits, middle, halved, halving, Halvable};
 ghost use Rattle.table.specs.Places.{mappingAt, firstWhere, startsBehind, endsBehind, seenBy, Valid, ValidIn};
 ghost use Rattle.table.specs.Splice.{mappingsOf, spliced, Splice};
@@ -233,21 +233,18 @@ fn write_replacement(t: &mut [u64], i: usize, new: Replacement)
     }
 }
 
-// Makes the words behind the last of `after` mappings zero, where there were `count`: those of the mappings that are gone,
-// and those behind them.
+// Makes the words behind the last of `after` mappings zero, where there were `count`: those of the mappings that are gone.
+// Behind them words are zero already.
 fn clear_behind(t: &mut [u64], count: usize, after: usize)
-    requires { ⌜ (4 * count ≤ length (now t)) × (4 * after ≤ length (now t)) ⌝ }
+    requires { ⌜ (4 * count ≤ length (now t)) × (4 * after ≤ length (now t)) × ZeroFrom (now t) (4 * max count after) ⌝ }
     ensures { λ _. ⌜ now (t .exit) ≡ cleared (now (t .entry)) (4 * after) ⌝ }
 {
     if after < count {
-        words::clear(t, 4 * after, 4 * count);
-        words::clear_from(t, 4 * count)
-    } else {
-        words::clear_from(t, 4 * after)
+        words::clear(t, 4 * after, 4 * count)
     }
 }
 
-// The mappings from place `lo` up to `hi` give way to the new ones, in place; the words behind the last mapping are zero.
+// The mappings from place `lo` up to `hi` give way to the new ones, in place; the words behind the last mapping stay zero.
 pub fn splice(t: &mut [u64], count: usize, lo: usize, hi: usize, new: Replacement)
     requires { ⌜ Splice (now t) count lo hi new ⌝ }
     ensures { λ _. ⌜ now (t .exit) ≡ written (length (now (t .entry))) (spliced (mappingsIn count (now (t .entry))) lo hi (mappingsOf new)) ⌝ }

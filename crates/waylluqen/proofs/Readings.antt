@@ -46,7 +46,7 @@ form-numbered : (r : Request) → Each Numbered (formRows r)
 form-numbered r = each-form Numbered r (omega arith) (omega arith)
 
 table-numbered : (s : Space) (between : List Row) (t : Table) → Each Numbered between → Each Numbered (tableRows s between t)
-table-numbered s between t k = each-table Numbered s between t (omega arith) (omega arith) k (omega arith) (omega arith)
+table-numbered s between t k = each-table Numbered s between t (omega arith) (omega arith) k (omega arith) (omega arith) (omega arith)
 
 bind-numbered : (s : Space) (t : Table) (n : ℕ) (q : Asking) → Each Numbered (bindRows s t n q)
 unfolding bindRows

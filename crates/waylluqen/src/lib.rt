@@ -144,8 +144,8 @@ fn found_words(f: Found) -> Translation
     }
 }
 
-// What a byte address shows in a table of `count` mappings, and for how many bytes, or the first of the refusals 1, 2, 4
-// and 5.
+// What a byte address shows in a table of `count` mappings, and for how many bytes, or the first of the refusals 1, 2, 4,
+// 5 and 17.
 #[no_mangle]
 pub extern "C" fn waylluqen_lookup(
     space: SpaceWords,
@@ -184,8 +184,8 @@ fn answer_words(a: Answer, count: u64) -> AnswerWords
     }
 }
 
-// Maps or unmaps a range in a table of `count` mappings, by the request's numbers: the first of the refusals 13, 1 to 11, and
-// then no word changes; or a grant.
+// Maps or unmaps a range in a table of `count` mappings, by the request's numbers: the first of the refusals 13, 1 to 5, 17,
+// 6 to 11, and then no word changes; or a grant.
 #[no_mangle]
 pub extern "C" fn waylluqen_bind(
     space: SpaceWords,
@@ -208,7 +208,7 @@ pub extern "C" fn waylluqen_bind(
     )
 }
 
-// The same by the bytes of a record: the refusals 12, 13, 14, 1 to 11.
+// The same by the bytes of a record: the refusals 12, 13, 14, 1 to 5, 17, 6 to 11.
 #[no_mangle]
 pub extern "C" fn waylluqen_bind_record(
     space: SpaceWords,
@@ -234,8 +234,8 @@ pub extern "C" fn waylluqen_bind_record(
 // The interface's number is in the name: header and ffi.rs need this very symbol, so that they link with no other edition of
 // the calls above. CONTRIBUTING.md says when it goes up.
 #[no_mangle]
-pub extern "C" fn waylluqen_interface_4() -> u32
-    ensures { λ n. ⌜ n ≡ 4 ⌝ }
+pub extern "C" fn waylluqen_interface_5() -> u32
+    ensures { λ n. ⌜ n ≡ 5 ⌝ }
 {
-    4
+    5
 }

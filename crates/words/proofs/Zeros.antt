@@ -1,4 +1,4 @@
--- Words that are zero, joined bit by bit: the joined word is zero exactly if each is.
+-- Words that are zero, joined bit by bit: the joined word is zero exactly if each is. Stores that leave zeros at the end.
 -- Assumes nothing.
 use mathlib.Core.Path.{_≡_, refl, sym, ap, _∙_}
 use mathlib.Core.List.{List, [], _∷_}
@@ -7,8 +7,8 @@ use native.Mathlib.Omega.{arith}
 use lib.Bits.{bitOr, or-add-and, and-le-l, and-le-r}
 use lib.ListN.{length, getD, take, drop, replicate, take-append-drop, length-drop, length-replicate, replicate-append-replicate}
 use lib.Seq.{take-at, drop-at, take-add, take-take, take-length, drop-drop, drop-cons}
-use Rattle.words.specs.Words.{cleared, Zeros, ZeroFrom, Tells}
-use Rattle.words.proofs.Stored.{drop-take}
+use Rattle.words.specs.Words.{stored, cleared, Zeros, ZeroFrom, Tells}
+use Rattle.words.proofs.Stored.{drop-take, drop-stored, length-stored, cleared-twice}
 
 or-zero : (a b : ℕ) → bitOr a b ≡ 0 → (a ≡ 0) × (b ≡ 0)
 or-zero a b e = (omega (arith, e, or-add-and a b, and-le-r a b), omega (arith, e, or-add-and a b, and-le-l a b))
@@ -85,3 +85,22 @@ module _ (ws : List ℕ) (from : ℕ) where
   pub cleared-zero : ZeroFrom ws from → cleared ws from ≡ ws
   unfolding cleared
   cleared-zero z = rw (← z) (take-append-drop from ws)
+
+  pub zero-later : (to : ℕ) → from ≤ to → to ≤ length ws → ZeroFrom ws from → ZeroFrom ws to
+  zero-later to h k z =
+      let d : from + (to - from) ≡ to = omega arith in
+      let n : length ws - from ≡ (to - from) + (length ws - to) = omega arith in
+      rw d at (sym (drop-drop (to - from) from ws)) ∙ ap (drop (to - from)) (z ∙ rw n) ∙ drop-zeros (to - from) (length ws - to)
+
+-- a run stored before them leaves them zero
+pub zero-stored : (ws : List ℕ) (at : ℕ) (run : List ℕ) (from : ℕ) → at + length run ≤ from → at + length run ≤ length ws
+    → ZeroFrom ws from → ZeroFrom (stored ws at run) from
+zero-stored ws at run from h k z = drop-stored ws at run from h (omega arith) ∙ rw (length-stored ws at run k) z
+
+-- with zeros behind, a clear up to there is one to the end
+pub cleared-up-to : (ws : List ℕ) (from to : ℕ) → from ≤ to → to ≤ length ws → ZeroFrom ws to
+    → stored ws from (replicate (to - from) 0) ≡ cleared ws from
+cleared-up-to ws from to h k z =
+    let zs : List ℕ = replicate (to - from) 0 in
+    let l : length zs ≡ to - from = length-replicate (to - from) 0 in
+    sym (cleared-zero (stored ws from zs) to (zero-stored ws from zs to (omega arith) (omega arith) z)) ∙ cleared-twice ws from to h k

@@ -1,12 +1,9 @@
-// Runs of words inside one lent slice: stored, moved and cleared.
+// Runs of words inside one lent slice: stored, moved, cleared and looked at.
 ghost use mathlib.Core.Path.{_≡_};
 ghost use mathlib.Core.Bool.{true};
 ghost use Prim.Native.Nat.{_+_, _-_, _*_, _≤_};
 ghost use lib.ListN.{length, replicate};
-ghost use Rattle.words.specs.Words.{stored, moved, cleared, Tells, ZeroFrom};
-
-// 32 KiB, which the nearest cache of a processor holds.
-const MANY_WORDS: usize = 4096;
+ghost use Rattle.words.specs.Words.{stored, moved, Tells, ZeroFrom};
 
 // Writes the run over the words from `at` on.
 pub fn store(t: &mut [u64], at: usize, run: &[u64])
@@ -218,26 +215,12 @@ fn joined_from(t: &[u64], from: usize) -> u64
     seen
 }
 
-// Whether all words from `from` on are zero: one look at all of them joined.
-fn are_zero_from(t: &[u64], from: usize) -> bool
+// Whether all words from `from` on are zero: one look at all of them joined, without a branch for each.
+pub fn are_zero_from(t: &[u64], from: usize) -> bool
     requires { ⌜ from ≤ length (now t) ⌝ }
     ensures { λ b. ⌜ (b ≡ true → ZeroFrom (now (t .entry)) from) × (ZeroFrom (now (t .entry)) from → b ≡ true) ⌝ }
 {
     let turns = (t.len() - from) / 64;
     let seen = joined_turns(t, from, turns) | joined_from(t, from + 64 * turns);
     seen == 0
-}
-
-// Makes the words from `from` on zero. Where they are many they are looked at first: mostly they are zero already, and
-// to read them is quicker than to write them.
-pub fn clear_from(t: &mut [u64], from: usize)
-    requires { ⌜ from ≤ length (now t) ⌝ }
-    ensures { λ _. ⌜ now (t .exit) ≡ cleared (now (t .entry)) from ⌝ }
-{
-    if MANY_WORDS < t.len() - from {
-        if are_zero_from(t, from) {
-            return;
-        }
-    }
-    clear(t, from, t.len())
 }

@@ -91,7 +91,7 @@ splice-requires c κs =
     let low = high .before .before .before in
     let start = low .before .before .before .before in
     let p = placed (start .pre) (low .first-ending-behind .ensures) (high .before .last-byte .ensures) (high .first-starting-behind .ensures) in
-    record { low = omega (arith, low-high p); high = omega (arith, low-high p); held = start .pre .table .held; room = omega (arith, c .before .before .before .before .before .before .if1 .left, counted .replacement-length .ensures .0) }
+    record { low = omega (arith, low-high p); high = omega (arith, low-high p); held = start .pre .table .held; behind = start .pre .behind; room = omega (arith, c .before .before .before .before .before .before .if1 .left, counted .replacement-length .ensures .0) }
 
 same-length-2 : tie.Need-same-length-2
 same-length-2 c = search needs

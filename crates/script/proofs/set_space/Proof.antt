@@ -21,8 +21,8 @@ returns c =
       takes = refl;
     })
 
-clear-from-requires : tie.Need-clear-from-requires
-clear-from-requires c κs = search needs
+clear-requires : tie.Need-clear-requires
+clear-requires c κs = search needs
 
 new-requires-2 : tie.Need-new-requires-2
 new-requires-2 c κs = search needs
@@ -36,7 +36,7 @@ returns-2 c =
     let b = k .before .before in
     let a = b .before .before .before .args in
     λ os bs. rw (c .new2 .ensures) (record {
-      leaves = space-granted (a .s) (a .table .now) (a .count) os bs (a .new) (held (b .before .space-keeps-rules .ensures) (b .if1 .left)) (k .clear-from .ensures);
+      leaves = space-granted (a .s) (a .table .now) (a .count) os bs (a .new) (held (b .before .space-keeps-rules .ensures) (b .if1 .left)) (k .clear .ensures);
       takes = refl;
     })
 
@@ -47,7 +47,7 @@ set-space-spec =
     space-keeps-rules-requires
     new-requires
     returns
-    clear-from-requires
+    clear-requires
     new-requires-2
     same-length
     returns-2)

@@ -1,7 +1,7 @@
 -- `table::splice` meets its contract.
 -- Assumes nothing.
 use mathlib.Core.Path.{_∙_}
-use Rattle.table.proofs.Spliced.{splice-written}
+use Rattle.table.proofs.Spliced.{splice-behind, splice-written}
 use borrow.Author.Needs.{needs}
 use Rattle.table.proofs.splice.Statement.{statement}
 use Rattle.table.proofs.splice.Tie as tie
@@ -34,7 +34,17 @@ add-clear-behind : tie.Need-add-clear-behind
 add-clear-behind c = search needs
 
 clear-behind-requires : tie.Need-clear-behind-requires
-clear-behind-requires c κs = search needs
+clear-behind-requires c κs =
+    let written = c .before .before .before in
+    let moved = written .before .before .before .before in
+    let counted = moved .before .before in
+    let start = counted .before .before in
+    let a = start .args in (
+      search needs,
+      search needs,
+      rw (written .write-replacement .ensures, moved .move-run .ensures, counted .replacement-length .ensures .0)
+      (splice-behind (a .t .now) (a .count) (a .lo) (a .hi) (a .new) (start .pre)),
+    )
 
 same-length : tie.Need-same-length
 same-length c = search needs
