@@ -13,9 +13,9 @@ use Rattle.model.proofs.Tests.{tests, Alls}
 use Rattle.model.proofs.Rows.{passed-split, answered-passed, andThen, decide-append}
 use Rattle.model.proofs.Groups.{TablePassed, table-passed, RequestPassed, request-passed}
 use Rattle.model.proofs.Store.{length-mappings}
+use Rattle.model.proofs.Zeros.{stale-zeros}
 use Rattle.model.proofs.Operations.{operations-most}
 use Rattle.table.specs.Places.{ValidIn}
-use Rattle.table.proofs.Words.{behind-says}
 use Rattle.change.specs.Change.{Ready}
 use Rattle.bind.specs.Bound.{checkedRows}
 
@@ -53,7 +53,7 @@ module _ (s : Space) (t : Table) where
       let ask : RequestPassed s r = request-passed s r (p .1) in
       record {
         table = valid-by rows .0;
-        behind = behind-says t .0 (rows .behind);
+        behind = stale-zeros t .0 (rows .behind);
         not-empty = omega (tests, ask .alignment);
         stop-most = omega (tests, ask .range, rows .space);
         offset-most = offset-most r ask;

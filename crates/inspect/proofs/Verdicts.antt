@@ -11,8 +11,8 @@ use Rattle.model.specs.Rows.{refused, answered, decide, verdict}
 use Rattle.model.specs.Table.{Table, capacity, mappings, badPlace, staleRow, contentRows}
 use Rattle.model.proofs.Tests.{all-true, all-false}
 use Rattle.model.proofs.Store.{length-mappings}
+use Rattle.model.proofs.Zeros.{stale-zeros}
 use Rattle.words.specs.Words.{ZeroFrom}
-use Rattle.table.proofs.Words.{behind-says}
 
 module _ (s : Space) (t : Table) where
   pub count-refused : capacity t < t .count → refused 4 0 ≡ verdict (contentRows s t)
@@ -32,8 +32,8 @@ module _ (s : Space) (t : Table) where
 
       pub stale-refused : (ZeroFrom (t .words) (4 * t .count) → ⊥) → refused 17 0 ≡ verdict (contentRows s t)
       unfolding decide
-      stale-refused n = simp (le-leb (t .count) (capacity t) h, none-bad, all-false (staleRow t .tests) (λ z. n (behind-says t .0 z)))
+      stale-refused n = simp (le-leb (t .count) (capacity t) h, none-bad, all-false (staleRow t .tests) (λ z. n (stale-zeros t .0 z)))
 
       pub table-passed : ZeroFrom (t .words) (4 * t .count) → answered tt ≡ verdict (contentRows s t)
       unfolding decide
-      table-passed z = simp (le-leb (t .count) (capacity t) h, none-bad, all-true (staleRow t .tests) (behind-says t .1 z))
+      table-passed z = simp (le-leb (t .count) (capacity t) h, none-bad, all-true (staleRow t .tests) (stale-zeros t .1 z))

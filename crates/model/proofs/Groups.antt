@@ -1,5 +1,5 @@
--- The named groups of rows: what a group that passes says, fact by fact, and that a group says what its lines in words
--- say.
+-- The named groups of rows: that a group says what its lines in words say, and what a group that passes says, fact by
+-- fact.
 -- Assumes nothing.
 use mathlib.Core.Path.{_≡_, refl, sym, subst}
 use mathlib.Core.List.{List, [], _∷_, _++_, append-assoc}
@@ -15,6 +15,64 @@ use Rattle.model.proofs.Rows.{Passed, passed-split, passed-join, Match}
 use Rattle.model.proofs.Rules.{apart-shares, shares-apart, space-says, object-says, offset-says}
 use Rattle.model.proofs.Table.{table-says}
 use Rattle.model.proofs.Zeros.{stale-says}
+
+-- ── rows and lines, f being how an answer is read ──
+
+module _ {A B : Type 0} (f : Reply A → B) (a : A) (refuse : ℕ → B) (reads : (n : ℕ) → f (refused n 0) ≡ refuse n) where
+  pub form-match : (r : Request) (ws : List Row) (t : RefusalTable B) → (r .op < 2 → Match f a ws t) → Match f a (formRows r ++ ws) (formLines refuse r t)
+  unfolding formRows
+  form-match r ws t rest = (
+    reads 13,
+    (λ h. omega tests, λ h. omega tests),
+    λ op. (reads 14, (λ h. omega tests, λ h. omega tests), λ _. rest op),
+  )
+
+  pub request-match : (s : Space) (r : Request) (ws : List Row) (t : RefusalTable B) → r .op < 2 → (0 < r .size → Match f a ws t)
+      → Match f a (requestRows s r ++ ws) (requestLines refuse s r t)
+  unfolding requestRows
+  request-match s r ws t op rest = (
+    reads 6,
+    (λ h. omega tests, λ h. omega tests),
+    λ six. (
+      reads 7,
+      (λ h. omega tests, λ h. omega tests),
+      λ _. (
+        reads 8,
+        (λ h. apart-shares _ _ _ _ (omega tests), λ h. let k = shares-apart _ _ _ _ h in omega tests),
+        λ _. (reads 9, object-says r op, λ _. (reads 10, offset-says r, λ _. rest (six .3))),
+      ),
+    ),
+  )
+
+module _ {A : Type 0} (a : A) where
+  abbrev Matches : List Row → RefusalTable (Reply A) → Type 0
+  Matches = Match (λ u. u) a
+
+  content-match : (s : Space) (t : Table) (ws : List Row) (rest : RefusalTable (Reply A)) → (TableRules s (mappings t) → Matches ws rest)
+      → Matches (contentRows s t ++ ws) (contentLines s t rest)
+  content-match s t ws rest m =
+      (refl, (λ h. omega tests, λ h. omega tests), λ _. (refl, table-says s (mappings t), λ five. (refl, stale-says t, λ _. m five)))
+
+  -- with rows between that match lines between
+  pub table-match : (s : Space) (t : Table) (between : List Row) (lines : RefusalTable (Reply A) → RefusalTable (Reply A))
+      → ((vs : List Row) (u : RefusalTable (Reply A)) → Matches vs u → Matches (between ++ vs) (lines u))
+      → (ws : List Row) (rest : RefusalTable (Reply A)) → (TableRules s (mappings t) → Matches ws rest)
+      → Matches (tableRows s between t ++ ws) (tableLines s lines t rest)
+  unfolding tableRows
+  table-match s t between lines through ws rest m = (
+    refl,
+    space-says s,
+    λ _. (
+      refl,
+      (λ h. omega tests, λ h. omega tests),
+      λ _. subst (λ (vs : List Row). Matches vs (lines (contentLines s t rest))) (sym (append-assoc between (contentRows s t) ws))
+          (through (contentRows s t ++ ws) (contentLines s t rest) (content-match s t ws rest m)),
+    ),
+  )
+
+  pub operations-match : (n : ℕ) (t : Table) (vs : List Row) (u : RefusalTable (Reply A)) → Matches vs u
+      → Matches (operationsRow n t ∷ vs) (operationsLine n t u)
+  operations-match n t vs u m = (refl, (λ h. omega tests, λ h. omega tests), λ _. m)
 
 -- ── groups that pass ──
 
@@ -89,61 +147,3 @@ module _ (P : Row → Type 0) where
       → Each P (requestRows s r)
   unfolding requestRows
   each-request s r six seven eight nine ten = (six, (seven, (eight, (nine, (ten, tt)))))
-
--- ── rows and lines, f being how an answer is read ──
-
-module _ {A B : Type 0} (f : Reply A → B) (a : A) (refuse : ℕ → B) (reads : (n : ℕ) → f (refused n 0) ≡ refuse n) where
-  pub form-match : (r : Request) (ws : List Row) (t : RefusalTable B) → (r .op < 2 → Match f a ws t) → Match f a (formRows r ++ ws) (formLines refuse r t)
-  unfolding formRows
-  form-match r ws t rest = (
-    reads 13,
-    (λ h. omega tests, λ h. omega tests),
-    λ op. (reads 14, (λ h. omega tests, λ h. omega tests), λ _. rest op),
-  )
-
-  pub request-match : (s : Space) (r : Request) (ws : List Row) (t : RefusalTable B) → r .op < 2 → (0 < r .size → Match f a ws t)
-      → Match f a (requestRows s r ++ ws) (requestLines refuse s r t)
-  unfolding requestRows
-  request-match s r ws t op rest = (
-    reads 6,
-    (λ h. omega tests, λ h. omega tests),
-    λ six. (
-      reads 7,
-      (λ h. omega tests, λ h. omega tests),
-      λ _. (
-        reads 8,
-        (λ h. apart-shares _ _ _ _ (omega tests), λ h. let k = shares-apart _ _ _ _ h in omega tests),
-        λ _. (reads 9, object-says r op, λ _. (reads 10, offset-says r, λ _. rest (six .3))),
-      ),
-    ),
-  )
-
-module _ {A : Type 0} (a : A) where
-  abbrev Matches : List Row → RefusalTable (Reply A) → Type 0
-  Matches = Match (λ u. u) a
-
-  content-match : (s : Space) (t : Table) (ws : List Row) (rest : RefusalTable (Reply A)) → (TableRules s (mappings t) → Matches ws rest)
-      → Matches (contentRows s t ++ ws) (contentLines s t rest)
-  content-match s t ws rest m =
-      (refl, (λ h. omega tests, λ h. omega tests), λ _. (refl, table-says s (mappings t), λ five. (refl, stale-says t, λ _. m five)))
-
-  -- with rows between that match lines between
-  pub table-match : (s : Space) (t : Table) (between : List Row) (lines : RefusalTable (Reply A) → RefusalTable (Reply A))
-      → ((vs : List Row) (u : RefusalTable (Reply A)) → Matches vs u → Matches (between ++ vs) (lines u))
-      → (ws : List Row) (rest : RefusalTable (Reply A)) → (TableRules s (mappings t) → Matches ws rest)
-      → Matches (tableRows s between t ++ ws) (tableLines s lines t rest)
-  unfolding tableRows
-  table-match s t between lines through ws rest m = (
-    refl,
-    space-says s,
-    λ _. (
-      refl,
-      (λ h. omega tests, λ h. omega tests),
-      λ _. subst (λ (vs : List Row). Matches vs (lines (contentLines s t rest))) (sym (append-assoc between (contentRows s t) ws))
-          (through (contentRows s t ++ ws) (contentLines s t rest) (content-match s t ws rest m)),
-    ),
-  )
-
-  pub operations-match : (n : ℕ) (t : Table) (vs : List Row) (u : RefusalTable (Reply A)) → Matches vs u
-      → Matches (operationsRow n t ∷ vs) (operationsLine n t u)
-  operations-match n t vs u m = (refl, (λ h. omega tests, λ h. omega tests), λ _. m)

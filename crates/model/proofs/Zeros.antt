@@ -1,15 +1,15 @@
--- Words that are zero, as tests and place by place.
+-- Row 17: the words behind the last mapping are zero, as tests, as a list of zeros and place by place.
 -- Assumes nothing.
-use mathlib.Core.Path.{_≡_, refl, ap₂}
+use mathlib.Core.Path.{_≡_, refl, ap, ap₂, _∙_}
 use mathlib.Core.List.{List, [], _∷_}
-use Prim.Native.Nat.{ℕ, zero, suc, _≤_, _<_}
+use Prim.Native.Nat.{ℕ, zero, suc, _-_, _*_, _≤_, _<_}
 use lib.Dec.{eqb→eq}
-use lib.ListN.{length, getD, drop, replicate}
+use lib.ListN.{length, getD, drop, replicate, length-drop}
 use Rattle.model.specs.Table.{Table, zeroTests, staleRow}
 use Rattle.model.specs.Exactly.{ZerosBehind}
 use Rattle.model.proofs.Tests.{tests, Alls, Says}
 
-pub tests-zeros : (ws : List ℕ) → Alls (zeroTests ws) → ws ≡ replicate (length ws) 0
+tests-zeros : (ws : List ℕ) → Alls (zeroTests ws) → ws ≡ replicate (length ws) 0
 tests-zeros [] h = refl
 tests-zeros (x ∷ xs) h = ap₂ _∷_ (eqb→eq x 0 (h .0)) (tests-zeros xs (h .1))
 
@@ -17,7 +17,14 @@ pub zeros-tests : (n : ℕ) → Alls (zeroTests (replicate n 0))
 zeros-tests zero = tt
 zeros-tests (suc n) = (tt, zeros-tests n)
 
--- the words from place n on are zero
+-- the row passes exactly if those words are zeros
+pub stale-zeros : (t : Table) → Says (staleRow t .tests) (drop (4 * t .count) (t .words) ≡ replicate (length (t .words) - 4 * t .count) 0)
+stale-zeros t = (
+  λ h. tests-zeros _ h ∙ ap (λ (n : ℕ). replicate n 0) (length-drop (4 * t .count) (t .words)),
+  λ z. rw z (zeros-tests (length (t .words) - 4 * t .count)),
+)
+
+-- place by place: the words from place n on are zero
 abbrev ZeroFrom : ℕ → List ℕ → Type 0
 ZeroFrom n ws = (i : ℕ) → n ≤ i → i < length ws → getD ws i 0 ≡ 0
 

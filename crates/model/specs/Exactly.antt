@@ -144,14 +144,14 @@ pub record Exactly : Type 0 where
       → (bind s t os q .table ≡ t .words) × (bind s t os q .operations ≡ os)
   pub lookup-only : (s : Space) (t : Table) (x n p : ℕ) → lookup s t x ≡ refused n p → n ∈ (1 ∷ 2 ∷ 4 ∷ 5 ∷ 17 ∷ [])
 
--- document 02: so a table that a call takes is what its mappings write, to the last word; an empty one is zeros
-abbrev pub Whole : Table → Type 0
-Whole t = t .words ≡ written (length (t .words)) (mappings t)
+-- document 02: so the words of a table that a call takes are its mappings' and zeros behind them; an empty one is zeros
+abbrev pub MappingsOnly : Table → Type 0
+MappingsOnly t = t .words ≡ written (length (t .words)) (mappings t)
 
-pub record TakesWhole : Type 0 where
-  pub of-bind : (s : Space) (t : Table) (os : List ℕ) (q : Asking) (g : Grant) → bind s t os q .answer ≡ answered g → Whole t
-  pub of-lookup : (s : Space) (t : Table) (x : ℕ) (v : Seen) → lookup s t x ≡ answered v → Whole t
-  pub empty : (t : Table) → Whole t → t .count ≡ 0 → t .words ≡ replicate (length (t .words)) 0
+pub record TakesMappingsOnly : Type 0 where
+  pub of-bind : (s : Space) (t : Table) (os : List ℕ) (q : Asking) (g : Grant) → bind s t os q .answer ≡ answered g → MappingsOnly t
+  pub of-lookup : (s : Space) (t : Table) (x : ℕ) (v : Seen) → lookup s t x ≡ answered v → MappingsOnly t
+  pub empty : (t : Table) → MappingsOnly t → t .count ≡ 0 → t .words ≡ replicate (length (t .words)) 0
 
 -- what comes is what was asked: a request whose numbers fit a record's fields as 40 bytes; one whose flags and pad are
 -- 0 by numbers

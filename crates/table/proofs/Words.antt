@@ -1,18 +1,16 @@
 -- Mappings and their words: parts of a table, and mappings written behind others.
 -- Assumes nothing.
-use mathlib.Core.Path.{_≡_, refl, ap, _∙_}
+use mathlib.Core.Path.{_≡_, refl}
 use mathlib.Core.List.{List, _++_, flatMap}
 use Prim.Native.Nat.{ℕ, zero, suc, _+_, _-_, _*_, _≤_}
 use native.Mathlib.Omega.{arith}
-use lib.ListN.{length, take, drop, replicate, length-drop}
+use lib.ListN.{length, take, drop}
 use lib.Seq.{drop-drop}
 use Rattle.model.specs.declared.Mapping.{Mapping}
-use Rattle.model.specs.Table.{Table, mappingsIn, wordsOf, staleRow}
+use Rattle.model.specs.Table.{mappingsIn, wordsOf}
 use Rattle.model.proofs.Operations.{flatMap-append}
-use Rattle.model.proofs.Tests.{Says}
 use Rattle.model.proofs.Store.{length-words}
-use Rattle.model.proofs.Zeros.{tests-zeros, zeros-tests}
-use Rattle.words.specs.Words.{stored, ZeroFrom}
+use Rattle.words.specs.Words.{stored}
 use Rattle.words.proofs.Stored.{stored-behind}
 
 pub take-mappings : (i n : ℕ) (ws : List ℕ) → i ≤ n → take i (mappingsIn n ws) ≡ mappingsIn i ws
@@ -35,11 +33,3 @@ pub stored-mappings : (ws : List ℕ) (i : ℕ) (ms ns : List Mapping) → 4 * i
 stored-mappings ws i ms ns h =
     let e : 4 * (i + length ms) ≡ 4 * i + length (flatMap wordsOf ms) = omega (arith, length-words ms) in
     rw (e, flatMap-append wordsOf ms ns) (stored-behind ws (4 * i) (flatMap wordsOf ms) (flatMap wordsOf ns) h)
-
--- row 17 passes exactly if the words behind the last mapping are zero
-pub behind-says : (t : Table) → Says (staleRow t .tests) (ZeroFrom (t .words) (4 * t .count))
-behind-says t =
-    let behind : List ℕ = drop (4 * t .count) (t .words) in (
-      λ h. tests-zeros behind h ∙ ap (λ (n : ℕ). replicate n 0) (length-drop (4 * t .count) (t .words)),
-      λ z. rw z (zeros-tests (length (t .words) - 4 * t .count)),
-    )

@@ -43,7 +43,7 @@ clear-behind-requires c κs =
       search needs,
       search needs,
       rw (written .write-replacement .ensures, moved .move-run .ensures, counted .replacement-length .ensures .0)
-      (splice-behind (a .t .now) (a .count) (a .lo) (a .hi) (a .new) (start .pre)),
+          (splice-behind (a .t .now) (a .count) (a .lo) (a .hi) (a .new) (start .pre)),
     )
 
 same-length : tie.Need-same-length
