@@ -1,6 +1,6 @@
 /*
- * The header's constants and layouts are those of document 01. A wrong one does not compile: in
- * C99, freestanding, in C++, and as a kernel compiles it.
+ * The header's constants and layouts are those of documents 01 and 02. A wrong one does not
+ * compile: in C99, freestanding, in C++, and as a kernel compiles it.
  */
 #include "waylluqen.h"
 
@@ -24,10 +24,11 @@ SAME(WAYLLUQEN_REFUSED_NO_ROOM, 11);
 SAME(WAYLLUQEN_REFUSED_BAD_RECORD_LENGTH, 12);
 SAME(WAYLLUQEN_REFUSED_BAD_OP, 13);
 SAME(WAYLLUQEN_REFUSED_BAD_FLAGS, 14);
+SAME(WAYLLUQEN_REFUSED_STALE_WORDS, 17);
 
-/* The list has a text for each refusal. */
+/* The list has a text for each refusal: 1 to 14, and 17. */
 #define TEXT(refusal, text) +(sizeof(text) > 1 ? (1u << (refusal)) : 0)
-typedef char texts[(WAYLLUQEN_REFUSALS(TEXT)) == (1u << 15) - 2 ? 1 : -1];
+typedef char texts[(WAYLLUQEN_REFUSALS(TEXT)) == (1u << 15) - 2 + (1u << 17) ? 1 : -1];
 
 SAME(WAYLLUQEN_OP_MAP, 0);
 SAME(WAYLLUQEN_OP_UNMAP, 1);

@@ -39,8 +39,8 @@ extern "C" {
  * %WAYLLUQEN_INTERFACE is a symbol that the archive exports, and its name carries the interface's
  * number. Every file that includes this header needs that very symbol: where the archive is of
  * another interface, older or newer, the program does not link, and the linker names the symbol.
- * The number goes up whenever a layout, a parameter list, a number or a word's meaning that is
- * written here changes.
+ * The number goes up whenever a layout, a parameter list, a number, or what a word means or may
+ * hold changes from what is written here.
  *
  * A file that only wants layouts and numbers, in a program that links no archive, defines
  * WAYLLUQEN_LAYOUTS_ONLY before it includes this header. There are no calls then.
@@ -49,7 +49,7 @@ extern "C" {
 #define WAYLLUQEN_VERSION_MAJOR 0
 #define WAYLLUQEN_VERSION_MINOR 1
 #define WAYLLUQEN_VERSION_PATCH 0
-#define WAYLLUQEN_INTERFACE waylluqen_interface_4
+#define WAYLLUQEN_INTERFACE waylluqen_interface_5
 
 /**
  * DOC: What the caller ensures
@@ -116,9 +116,11 @@ enum {
  * @WAYLLUQEN_REFUSED_BAD_RECORD_LENGTH: the record is not %WAYLLUQEN_RECORD_BYTES bytes long
  * @WAYLLUQEN_REFUSED_BAD_OP: op is neither %WAYLLUQEN_OP_MAP nor %WAYLLUQEN_OP_UNMAP
  * @WAYLLUQEN_REFUSED_BAD_FLAGS: the record's flags or pad is not 0
+ * @WAYLLUQEN_REFUSED_STALE_WORDS: a word behind the table's last mapping is not 0, as where the
+ *     count is too low; see WAYLLUQEN_TABLE_WORDS()
  *
- * Where several apply, a call answers with the first in this order: 12, 13, 14, then 1 to 11. It
- * leaves out those that it has no use for.
+ * Where several apply, a call answers with the first in this order: 12, 13, 14, 1 to 5, 17, then 6
+ * to 11. It leaves out those that it has no use for. 15 and 16 are no refusals.
  */
 enum waylluqen_refusal {
     WAYLLUQEN_OK = 0,
@@ -135,7 +137,8 @@ enum waylluqen_refusal {
     WAYLLUQEN_REFUSED_NO_ROOM = 11,
     WAYLLUQEN_REFUSED_BAD_RECORD_LENGTH = 12,
     WAYLLUQEN_REFUSED_BAD_OP = 13,
-    WAYLLUQEN_REFUSED_BAD_FLAGS = 14
+    WAYLLUQEN_REFUSED_BAD_FLAGS = 14,
+    WAYLLUQEN_REFUSED_STALE_WORDS = 17
 };
 
 /**
@@ -164,7 +167,8 @@ enum waylluqen_refusal {
     X(WAYLLUQEN_REFUSED_NO_ROOM, "the table has no room for the mappings afterwards") \
     X(WAYLLUQEN_REFUSED_BAD_RECORD_LENGTH, "the record is not 40 bytes long") \
     X(WAYLLUQEN_REFUSED_BAD_OP, "the op is neither map nor unmap") \
-    X(WAYLLUQEN_REFUSED_BAD_FLAGS, "flags or pad is not 0")
+    X(WAYLLUQEN_REFUSED_BAD_FLAGS, "flags or pad is not 0") \
+    X(WAYLLUQEN_REFUSED_STALE_WORDS, "a word behind the table's last mapping is not 0")
 
 /**
  * enum waylluqen_op - what a request asks for
@@ -201,8 +205,13 @@ enum waylluqen_mapping_word {
  * @capacity: how many mappings it is to have room for, 1 to %WAYLLUQEN_MAX_MAPPINGS
  *
  * The table's mappings stand at its front in ascending order, each ending at or before the next
- * one's address. Their count is kept beside the table; the words behind them are not looked at.
- * An empty table is zeros with count 0.
+ * one's address. Their count is kept beside the table. Every word behind the last mapping is 0: a
+ * table with another word there is refused, %WAYLLUQEN_REFUSED_STALE_WORDS, so that a count that is
+ * too low does not pass for a shorter table. An empty table is zeros with count 0.
+ *
+ * A grant leaves zeros there, so a table that only these calls write, with the count that they
+ * answer, is never refused so. A caller that makes a table itself, copies one to a longer place or
+ * takes a mapping away by hand has to leave zeros behind the last mapping too.
  */
 #define WAYLLUQEN_TABLE_WORDS(capacity) ((size_t)(capacity) * WAYLLUQEN_MAPPING_WORDS)
 
@@ -414,10 +423,10 @@ __attribute__((used)) static uint32_t (*const waylluqen_interface_needed)(void) 
  *
  * Returns: the first of %WAYLLUQEN_REFUSED_BAD_OP, %WAYLLUQEN_REFUSED_BAD_SPACE,
  * %WAYLLUQEN_REFUSED_BAD_TABLE_LENGTH, %WAYLLUQEN_REFUSED_SHORT_OPERATIONS,
- * %WAYLLUQEN_REFUSED_BAD_COUNT, %WAYLLUQEN_REFUSED_BAD_MAPPING, %WAYLLUQEN_REFUSED_UNALIGNED,
- * %WAYLLUQEN_REFUSED_OUTSIDE_SPACE, %WAYLLUQEN_REFUSED_RESERVED, %WAYLLUQEN_REFUSED_BAD_OBJECT,
- * %WAYLLUQEN_REFUSED_BAD_OFFSET and %WAYLLUQEN_REFUSED_NO_ROOM that applies; or %WAYLLUQEN_OK
- * with the number of operations and the count to go on with.
+ * %WAYLLUQEN_REFUSED_BAD_COUNT, %WAYLLUQEN_REFUSED_BAD_MAPPING, %WAYLLUQEN_REFUSED_STALE_WORDS,
+ * %WAYLLUQEN_REFUSED_UNALIGNED, %WAYLLUQEN_REFUSED_OUTSIDE_SPACE, %WAYLLUQEN_REFUSED_RESERVED,
+ * %WAYLLUQEN_REFUSED_BAD_OBJECT, %WAYLLUQEN_REFUSED_BAD_OFFSET and %WAYLLUQEN_REFUSED_NO_ROOM that
+ * applies; or %WAYLLUQEN_OK with the number of operations and the count to go on with.
  */
 waylluqen_answer waylluqen_bind(waylluqen_space space, uint64_t *table, size_t table_words,
                                 uint64_t count, uint64_t *operations, size_t operation_words,
@@ -473,11 +482,12 @@ waylluqen_answer waylluqen_bind_record(waylluqen_space space, uint64_t *table, s
  *          // may go on behind the range's end
  *      }
  *
- * Each of these look-ups checks the table.
+ * Each of these look-ups checks the table, with the words behind its last mapping.
  *
  * Returns: the first of %WAYLLUQEN_REFUSED_BAD_SPACE, %WAYLLUQEN_REFUSED_BAD_TABLE_LENGTH,
- * %WAYLLUQEN_REFUSED_BAD_COUNT and %WAYLLUQEN_REFUSED_BAD_MAPPING that applies; or %WAYLLUQEN_OK
- * with what the address shows and for how many bytes.
+ * %WAYLLUQEN_REFUSED_BAD_COUNT, %WAYLLUQEN_REFUSED_BAD_MAPPING and
+ * %WAYLLUQEN_REFUSED_STALE_WORDS that applies; or %WAYLLUQEN_OK with what the address shows and for
+ * how many bytes.
  */
 waylluqen_translation waylluqen_lookup(waylluqen_space space, const uint64_t *table,
                                        size_t table_words, uint64_t count, uint64_t address);

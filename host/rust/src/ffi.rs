@@ -69,7 +69,7 @@ pub struct Answer {
 }
 
 extern "C" {
-    fn waylluqen_interface_4() -> u32;
+    fn waylluqen_interface_5() -> u32;
 
     fn waylluqen_check_request(
         record: *const u8,
@@ -112,7 +112,7 @@ extern "C" {
 
 // Needs the archive that these declarations are of: with another one the program does not link.
 #[used]
-static INTERFACE: unsafe extern "C" fn() -> u32 = waylluqen_interface_4;
+static INTERFACE: unsafe extern "C" fn() -> u32 = waylluqen_interface_5;
 
 /// Calls `waylluqen_check_request`: the number of the first reason to refuse a record, or 0.
 ///

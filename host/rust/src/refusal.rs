@@ -4,8 +4,8 @@ use core::fmt;
 
 /// The first rule that a call's table, numbers or record break. No lent word has changed then.
 ///
-/// Where several apply, the answer is the first in the order 12, 13, 14, then 1 to 11 of their
-/// [numbers](Refusal::number).
+/// Where several apply, the answer is the first in the order 12, 13, 14, 1 to 5, 17, 6 to 11 of
+/// their [numbers](Refusal::number).
 ///
 /// ```
 /// use waylluqen::{operation_list_words, Refusal, Request, Space, Table};
@@ -56,6 +56,28 @@ pub enum Refusal {
     BadOp,
     /// The record's flags or pad is not 0.
     BadFlags,
+    /// A word behind the table's last mapping is not 0.
+    ///
+    /// So a count that is too low does not pass for a shorter table. Words that a
+    /// [`Table`](crate::Table) alone writes, with the count that it gives, are never refused so.
+    ///
+    /// ```
+    /// use waylluqen::{Refusal, Shown, Space, View};
+    ///
+    /// let space = Space::new(0, 0x1_0000);
+    /// let words = [0x1000, 0x1000, 7, 0, 0x4000, 0x1000, 8, 0, 0, 0, 0, 0];
+    /// let seen = View::new(&words, 2).lookup(space, 0x4000)?;
+    /// assert_eq!(seen.shown, Shown::Object { object: 8, offset: 0 });
+    /// for too_low in [0, 1] {
+    ///     let refused = View::new(&words, too_low).lookup(space, 0x4000);
+    ///     assert_eq!(refused, Err(Refusal::StaleWords));
+    /// }
+    /// // Four zeros are no mapping, so that one too high is refused as well.
+    /// let refused = View::new(&words, 3).lookup(space, 0x4000);
+    /// assert_eq!(refused, Err(Refusal::BadMapping { place: 2 }));
+    /// # Ok::<(), Refusal>(())
+    /// ```
+    StaleWords,
 }
 
 impl Refusal {
@@ -66,6 +88,7 @@ impl Refusal {
     ///
     /// assert_eq!(Refusal::NoRoom.number(), 11);
     /// assert_eq!(Refusal::BadMapping { place: 3 }.number(), 5);
+    /// assert_eq!(Refusal::StaleWords.number(), 17);
     /// ```
     pub const fn number(self) -> u32 {
         match self {
@@ -83,6 +106,7 @@ impl Refusal {
             Refusal::BadRecordLength => 12,
             Refusal::BadOp => 13,
             Refusal::BadFlags => 14,
+            Refusal::StaleWords => 17,
         }
     }
 
@@ -112,6 +136,7 @@ impl Refusal {
             12 => Refusal::BadRecordLength,
             13 => Refusal::BadOp,
             14 => Refusal::BadFlags,
+            17 => Refusal::StaleWords,
             _ => unreachable!("the library is proved to answer no other number"),
         }
     }
@@ -136,6 +161,7 @@ impl fmt::Display for Refusal {
             Refusal::BadRecordLength => "the record is not 40 bytes long",
             Refusal::BadOp => "the op is neither map nor unmap",
             Refusal::BadFlags => "flags or pad is not 0",
+            Refusal::StaleWords => "a word behind the table's last mapping is not 0",
         })
     }
 }

@@ -6,8 +6,8 @@ use core::ops::Range;
 /// The mappings of a space, in lent words, and their count.
 ///
 /// The mappings stand at the front in ascending order, four words each: address, size, object,
-/// offset. Any words and any count are allowed; each call checks them, and refuses a table that
-/// breaks a rule.
+/// offset. All words behind them are 0. Any words and any count are allowed; each call checks them,
+/// and refuses a table that breaks a rule.
 ///
 /// ```
 /// use waylluqen::{operation_list_words, table_words, Request, Shown, Space, Table};
@@ -44,14 +44,23 @@ impl<'a> Table<'a> {
 
     /// The table of `count` mappings that the words hold, such as an earlier [`Table`] left them.
     ///
+    /// No word is changed. Those behind the last mapping have to be 0, also where the words were
+    /// copied to a longer slice; with a count that is too low they are not, and each call is refused
+    /// with [`StaleWords`](Refusal::StaleWords).
+    ///
     /// ```
     /// use waylluqen::{Refusal, Space, Table};
     ///
     /// let space = Space::new(0, 0x1_0000);
-    /// let mut words = [0x1000, 0x1000, 7, 0, 0x2000, 0x1000, 8, 1];
-    /// assert!(Table::with_count(&mut words, 1).lookup(space, 0).is_ok());
+    /// let mut words = [0x1000, 0x1000, 7, 0, 0x2000, 0x1000, 8, 0];
+    /// assert!(Table::with_count(&mut words, 2).lookup(space, 0).is_ok());
+    ///
+    /// // A count that is too low does not pass for a shorter table.
+    /// let refused = Table::with_count(&mut words, 1).lookup(space, 0);
+    /// assert_eq!(refused, Err(Refusal::StaleWords));
     ///
     /// // The offset of the second is not a multiple of a page.
+    /// words[7] = 1;
     /// let refused = Table::with_count(&mut words, 2).lookup(space, 0);
     /// assert_eq!(refused, Err(Refusal::BadMapping { place: 1 }));
     /// ```
@@ -128,7 +137,8 @@ impl<'a> Table<'a> {
     /// # Errors
     ///
     /// The first of [`BadSpace`](Refusal::BadSpace), [`BadTableLength`](Refusal::BadTableLength),
-    /// [`BadCount`](Refusal::BadCount) and [`BadMapping`](Refusal::BadMapping) that applies.
+    /// [`BadCount`](Refusal::BadCount), [`BadMapping`](Refusal::BadMapping) and
+    /// [`StaleWords`](Refusal::StaleWords) that applies.
     ///
     /// ```
     /// use waylluqen::{Refusal, Seen, Shown, Space, Table};
@@ -174,17 +184,18 @@ impl<'a> Table<'a> {
     ///
     /// A mapping that shares a byte with the range is cut: what is outside the range stays. Each
     /// page of the range then shows what was asked, and every other page what it showed before.
-    /// All words behind the table's mappings become 0; the list's words behind the operations stay.
+    /// All words behind the table's mappings are 0; the list's words behind the operations stay.
     ///
     /// # Errors
     ///
     /// The first of [`BadOp`](Refusal::BadOp), [`BadSpace`](Refusal::BadSpace),
     /// [`BadTableLength`](Refusal::BadTableLength), [`ShortOperations`](Refusal::ShortOperations),
     /// [`BadCount`](Refusal::BadCount), [`BadMapping`](Refusal::BadMapping),
-    /// [`Unaligned`](Refusal::Unaligned), [`OutsideSpace`](Refusal::OutsideSpace),
-    /// [`Reserved`](Refusal::Reserved), [`BadObject`](Refusal::BadObject),
-    /// [`BadOffset`](Refusal::BadOffset) and [`NoRoom`](Refusal::NoRoom) that applies. No word of
-    /// the table or of the list has changed then.
+    /// [`StaleWords`](Refusal::StaleWords), [`Unaligned`](Refusal::Unaligned),
+    /// [`OutsideSpace`](Refusal::OutsideSpace), [`Reserved`](Refusal::Reserved),
+    /// [`BadObject`](Refusal::BadObject), [`BadOffset`](Refusal::BadOffset) and
+    /// [`NoRoom`](Refusal::NoRoom) that applies. No word of the table or of the list has changed
+    /// then.
     ///
     /// ```
     /// use waylluqen::{operation_list_words, table_words, Refusal, Request, Space, Table};

@@ -33,8 +33,8 @@ pub struct View<'a> {
 }
 
 impl<'a> View<'a> {
-    /// The table of `count` mappings that the words hold. Any words and any count are allowed;
-    /// each look-up checks them.
+    /// The table of `count` mappings that the words hold, with zeros behind them. Any words and any
+    /// count are allowed; each look-up checks them.
     ///
     /// ```
     /// use waylluqen::{Shown, Space, View};
@@ -119,7 +119,8 @@ impl<'a> View<'a> {
     /// # Errors
     ///
     /// The first of [`BadSpace`](Refusal::BadSpace), [`BadTableLength`](Refusal::BadTableLength),
-    /// [`BadCount`](Refusal::BadCount) and [`BadMapping`](Refusal::BadMapping) that applies.
+    /// [`BadCount`](Refusal::BadCount), [`BadMapping`](Refusal::BadMapping) and
+    /// [`StaleWords`](Refusal::StaleWords) that applies.
     ///
     /// ```
     /// use waylluqen::{Refusal, Seen, Shown, Space, View};
@@ -130,6 +131,9 @@ impl<'a> View<'a> {
     /// assert_eq!(view.lookup(space, 0x2008), Ok(Seen { shown, bytes: 0xff8 }));
     /// assert_eq!(view.lookup(space, 0x3000), Ok(Seen { shown: Shown::Nothing, bytes: 0xd000 }));
     /// assert_eq!(view.lookup(Space::new(1, 2), 0x3000), Err(Refusal::BadSpace));
+    ///
+    /// let lost_count = View::new(view.words(), 0);
+    /// assert_eq!(lost_count.lookup(space, 0x2008), Err(Refusal::StaleWords));
     /// ```
     #[inline]
     pub fn lookup(self, space: Space, address: u64) -> Result<Seen, Refusal> {
@@ -139,7 +143,8 @@ impl<'a> View<'a> {
     }
 
     /// Walks a range by what look-ups tell of how far an answer goes on: one look-up a run, each of
-    /// which checks the table. The last run is cut at the range's end.
+    /// which checks the table, with the words behind its last mapping. The last run is cut at the
+    /// range's end.
     ///
     /// The walk ends at the space's end, so that a range that starts outside has no run, also where
     /// it goes on inside. An empty range has none either, and nothing is looked up. A look-up that

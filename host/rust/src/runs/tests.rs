@@ -19,6 +19,7 @@ const WORDS: [u64; 20] = [
     0x1f_f000, 0x1000, 1, 0, // the last
 ];
 const VIEW: View<'_> = View::new(&WORDS, 5);
+const EMPTY: View<'_> = View::new(&[0; 20], 0);
 const ALL: Range<u64> = 0x10_0000..0x20_0000;
 
 /// No more than a walk should have, so that one without an end fails too.
@@ -126,6 +127,8 @@ fn a_refusal_is_the_last() {
         (View::new(&WORDS[1..], 4), SPACE, Refusal::BadTableLength),
         (View::new(&WORDS, 6), SPACE, Refusal::BadCount),
         (damaged, SPACE, Refusal::BadMapping { place: 2 }),
+        (View::new(&WORDS, 4), SPACE, Refusal::StaleWords),
+        (View::new(&WORDS, 0), SPACE, Refusal::StaleWords),
     ] {
         // Inside the space, outside it, and across its ends.
         for range in [ALL, 0..1, 0x10_0001..u64::MAX, u64::MAX - 1..u64::MAX] {
@@ -151,13 +154,12 @@ fn the_space_ends_a_walk() {
         assert_eq!(runs.next(), None);
         assert_eq!(runs.next(), None);
     }
-    let empty = View::new(&WORDS, 0);
     for behind in [end + 1, LIMIT, u64::MAX] {
         let mut walk = VIEW.runs(SPACE, end - 2..behind);
         assert_eq!(walk.next(), Some(Ok(object(end - 2, 2, 1, 0xffe))));
         assert_eq!(walk.next(), None);
         assert_eq!(walk.next(), None);
-        assert_eq!(runs(empty, SPACE, end - 2..behind), [nothing(end - 2, 2)]);
+        assert_eq!(runs(EMPTY, SPACE, end - 2..behind), [nothing(end - 2, 2)]);
     }
 }
 
@@ -165,12 +167,12 @@ fn the_space_ends_a_walk() {
 fn the_last_byte_below_the_limit() {
     let (last, widest) = (LIMIT - 1, Space::new(0, LIMIT));
     let words = [LIMIT - PAGE_SIZE, PAGE_SIZE, 7, 0];
-    let (full, empty) = (View::new(&words, 1), View::new(&words, 0));
+    let full = View::new(&words, 1);
     for end in [LIMIT, LIMIT + 1, u64::MAX] {
         let expected = [object(last, 1, 7, PAGE_SIZE - 1)];
         assert_eq!(runs(full, widest, last..end), expected);
-        assert_eq!(runs(empty, widest, last..end), [nothing(last, 1)]);
-        assert_eq!(runs(empty, widest, 0..end), [nothing(0, LIMIT)]);
+        assert_eq!(runs(EMPTY, widest, last..end), [nothing(last, 1)]);
+        assert_eq!(runs(EMPTY, widest, 0..end), [nothing(0, LIMIT)]);
     }
     let expected = [
         nothing(0, LIMIT - PAGE_SIZE),
