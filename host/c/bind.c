@@ -13,6 +13,7 @@
 #define LONGEST_RECORD 80
 /* The most mappings and operations that a case writes out. */
 #define MOST_WRITTEN 6
+#define NUMBER(cases) (sizeof(cases) / sizeof(cases)[0])
 
 struct operation {
     uint64_t kind;
@@ -322,12 +323,14 @@ static const struct test_case grants[] = {
      {MAPS(LIST(0x100000, PAGE, 5, 0))}, 1},
     {"an operation more", COMMON, GOOD_UNMAP, GRANTED(0, 0), ROOM(0, 3), {NONE}, {NONE},
      {MAPS(NONE)}, OPERATION_WORDS},
-    /* 4 and 5: a full table; words behind the count are not looked at, but cleared. */
+    /* 4, 5 and 17: a full table, which has no words behind the count; and zeros there. */
     {"a full table, nothing hit", COMMON, REQUEST(1, 0x104000, PAGE, 0, 0), GRANTED(0, 5),
      ROOM(5, 5), FIVE, FIVE, {MAPS(NONE)}, 0},
-    {"bad words behind the count", COMMON, REQUEST(1, 0x104000, PAGE, 0, 0), GRANTED(0, 1),
-     ROOM(1, 2), {FIRST, ONES}, {FIRST}, {MAPS(NONE)}, 0},
-    {"only bad words behind the count", COMMON, GOOD_MAP, GRANTED(1, 1), ROOM(0, 2), {ONES, ONES},
+    {"count below the room, nothing hit", COMMON, REQUEST(1, 0x104000, PAGE, 0, 0), GRANTED(0, 5),
+     ROOM(5, 7), FIVE, FIVE, {MAPS(NONE)}, 0},
+    {"count 1 of two", COMMON, REQUEST(1, 0x104000, PAGE, 0, 0), GRANTED(0, 1), ROOM(1, 2),
+     {FIRST}, {FIRST}, {MAPS(NONE)}, 0},
+    {"count 0 of two", COMMON, GOOD_MAP, GRANTED(1, 1), ROOM(0, 2), {NONE},
      {{0x100000, PAGE, 5, 0}}, {MAPS(LIST(0x100000, PAGE, 5, 0))}, 0},
     /* 8: up to the reservation and from its end on. */
     {"touches the reservation from below", COMMON, REQUEST(0, 0x13f000, PAGE, 5, 0), GRANTED(1, 1),
@@ -382,6 +385,10 @@ struct refusal_case {
 #define SHORT(name, count, capacity, more) \
     {name, REFUSED(3, count), COMMON, GOOD_MAP, ROOM(count, capacity), FIVE, more}
 #define COUNT(name, count) {name, REFUSED(4, count), COMMON, GOOD_MAP, ROOM(count, 5), FIVE, 0}
+/* The five, and a stale one behind them. */
+#define STALE(name, request, ...) \
+    {name, REFUSED(17, 5), COMMON, request, ROOM(5, 6), \
+     {FIRST, SECOND, THIRD, FOURTH, LAST, __VA_ARGS__}, 0}
 #define FULL_UP(name, request, count, capacity, ...) \
     {name, REFUSED(11, count), DRAWN, request, ROOM(count, capacity), {__VA_ARGS__}, 0}
 
@@ -460,6 +467,21 @@ static const struct refusal_case refusals[] = {
     {"sharing a page", BAD_PLACE(1, 2), COMMON, GOOD_MAP, ROOM(2, 4),
      {{0x100000, 0x2000, 7, 0}, {0x101000, 0x2000, 7, 0}}, 0},
 
+    /* 17: mappings behind the count, bad ones, and a single word of one. */
+    {"count one too low", REFUSED(17, 4), COMMON, GOOD_MAP, ROOM(4, 5), FIVE, 0},
+    {"count 1 of five", REFUSED(17, 1), COMMON, GOOD_MAP, ROOM(1, 6), FIVE, 0},
+    {"count 0 of five", REFUSED(17, 0), COMMON, GOOD_MAP, ROOM(0, 6), FIVE, 0},
+    {"bad words behind the count", REFUSED(17, 1), COMMON, REQUEST(1, 0x104000, PAGE, 0, 0),
+     ROOM(1, 2), {FIRST, ONES}, 0},
+    {"only bad words behind the count", REFUSED(17, 0), COMMON, GOOD_MAP, ROOM(0, 2), {ONES, ONES},
+     0},
+    STALE("a stale address", GOOD_MAP, {PAGE, 0, 0, 0}),
+    STALE("a stale size", GOOD_UNMAP, {0, 1, 0, 0}),
+    STALE("a stale object", GOOD_MAP, {0, 0, BIT_32, 0}),
+    STALE("a stale offset", GOOD_UNMAP, {0, 0, 0, HALF}),
+    STALE("stale, nothing hit", REQUEST(1, 0x104000, PAGE, 0, 0), {0, 0, 0, 1}),
+    STALE("stale, two would go", REQUEST(1, 0x180000, 0x80000, 0, 0), ONES),
+
     /* 6: multiples of a page, and size 0. */
     ASKED("address one above", 6, 0, 0x100001, PAGE, 5, 0),
     ASKED("size one above", 6, 0, 0x100000, PAGE + 1, 5, 0),
@@ -522,6 +544,21 @@ static const struct refusal_case refusals[] = {
     {"5 before 6", BAD_PLACE(1, 2), COMMON, REQUEST(0, 1, 0, 0, 1), ROOM(2, 2), {FIRST, ONES}, 0},
     {"5 before 11", BAD_PLACE(1, 2), COMMON, REQUEST(0, 0x104000, PAGE, 5, 0), ROOM(2, 2),
      {FIRST, ONES}, 0},
+    {"13 before 17", REFUSED(13, 1), COMMON, REQUEST(2, 0x100000, PAGE, 0, 0), ROOM(1, 2),
+     {FIRST, ONES}, 0},
+    {"1 before 17", REFUSED(1, 1), SPACE(1, PAGE, 0, 0), GOOD_MAP, ROOM(1, 2), {FIRST, ONES}, 0},
+    {"2 before 17", REFUSED(2, 1), COMMON, GOOD_MAP, 1, 7, {FIRST, ONES}, 0},
+    {"3 before 17", REFUSED(3, 1), COMMON, GOOD_MAP, ROOM(1, 2), {FIRST, ONES}, -1},
+    {"4 before 17", REFUSED(4, 3), COMMON, GOOD_MAP, ROOM(3, 2), {FIRST, SECOND, THIRD, ONES}, 0},
+    {"5 before 17", BAD_PLACE(0, 1), COMMON, GOOD_MAP, ROOM(1, 2), {ONES, ONES}, 0},
+    {"5 before 17, at the count", BAD_PLACE(2, 3), COMMON, GOOD_MAP, ROOM(3, 4),
+     {FIRST, SECOND, ONES, ONES}, 0},
+    STALE("17 before 6", REQUEST(0, 0x100001, PAGE, 5, 0), ONES),
+    STALE("17 before 7", REQUEST(0, 0x200000, PAGE, 5, 0), ONES),
+    STALE("17 before 8", REQUEST(0, 0x140000, PAGE, 5, 0), ONES),
+    STALE("17 before 9", REQUEST(0, 0x100000, PAGE, 0, 0), ONES),
+    STALE("17 before 10", REQUEST(0, 0x100000, PAGE, 5, LIMIT), ONES),
+    {"17 before 11", REFUSED(17, 1), DRAWN, MAP(1, 2, 9, 4), ROOM(1, 2), {P(0, 3, 7, 1), ONES}, 0},
     ASKED("6 before 7", 6, 0, 0xff001, PAGE, 5, 0),
     ASKED("6 before 9", 6, 0, 0x100000, PAGE, 0, 1),
     ASKED("7 before 8", 7, 0, 0x17f000, 0x100000, 5, 0),
@@ -566,7 +603,7 @@ static const struct record_case records[] = {
     {"1 after the record", 1, {0, 0, 0, 0, 1, 1, 0}, RECORD_BYTES, 1},
 };
 
-/* A full table of 4,096: place p has pages [4p, 4p + 3), object p + 1; a bad place object 0. */
+/* A full table of 4,096, as fill_places() has it; a bad place has object 0. */
 struct full_case {
     const char *name;
     waylluqen_request request;
@@ -574,8 +611,6 @@ struct full_case {
     size_t first_hit; /* all that are hit go: places [first_hit, hit_end) */
     size_t hit_end;
 };
-
-#define FULL_SPACE {0, 4 * MOST_MAPPINGS * PAGE, 0, 0}
 
 static const struct full_case full_cases[] = {
     {"the first of 4096 replaced", MAP(0, 3, 5000, 0), GRANTED(2, 4096), 0, 1},
@@ -664,29 +699,43 @@ static void foresee(const struct call *call, uint8_t *table, uint8_t *list)
     memcpy(front, call->new_list, call->expected.operations * sizeof(struct operation));
 }
 
-/* Asks by numbers, or by record where there is one, and answers 1 where it is not as expected. */
-static int differs(const struct call *call, const waylluqen_request *request, const uint8_t *record,
-                   size_t record_bytes)
+/* Asks by numbers, or by record where there is one; answers 1 where that is answered otherwise. */
+static int is_wrong(const struct call *call, const waylluqen_request *request,
+                    const uint8_t *record, size_t record_bytes)
 {
-    static uint8_t table[(LONGEST_TABLE + 512) * sizeof(uint64_t)];
-    static uint8_t list[(LONGEST_LIST + 512) * sizeof(uint64_t)];
-    foresee(call, table, list);
     waylluqen_answer answer =
         record == NULL
             ? waylluqen_bind(call->space, call->table, call->table_words, call->count, call->list,
                              call->list_words, *request)
             : waylluqen_bind_record(call->space, call->table, call->table_words, call->count,
                                     call->list, call->list_words, record, record_bytes);
-    if (!is_same(answer, call->expected)) {
-        printf("host/c: %s, by %s\n", call->name, record == NULL ? "numbers" : "record");
-        print_answer("expected", call->expected);
-        print_answer("answered", answer);
-        return 1;
+    if (is_same(answer, call->expected)) {
+        return 0;
     }
-    return is_changed(call->name, "table", lent_table.memory, table, lent_table.bytes,
+    printf("host/c: %s, by %s\n", call->name, record == NULL ? "numbers" : "record");
+    print_answer("expected", call->expected);
+    print_answer("answered", answer);
+    return 1;
+}
+
+/* What the memory should hold when all is asked. */
+static uint8_t left_table[(LONGEST_TABLE + 512) * sizeof(uint64_t)];
+static uint8_t left_list[(LONGEST_LIST + 512) * sizeof(uint64_t)];
+
+static int is_left_otherwise(const struct call *call)
+{
+    return is_changed(call->name, "table", lent_table.memory, left_table, lent_table.bytes,
                       call->table) ||
-           is_changed(call->name, "operations", lent_list.memory, list, lent_list.bytes,
+           is_changed(call->name, "operations", lent_list.memory, left_list, lent_list.bytes,
                       call->list);
+}
+
+/* Asks once; answers 1 where the answer or what it leaves is not as expected. */
+static int differs(const struct call *call, const waylluqen_request *request, const uint8_t *record,
+                   size_t record_bytes)
+{
+    foresee(call, left_table, left_list);
+    return is_wrong(call, request, record, record_bytes) || is_left_otherwise(call);
 }
 
 /* Lends old words and operation words, each at the front or at the back. */
@@ -732,16 +781,47 @@ static size_t list_words(size_t table_words, int more)
     return more < 0 ? least - (size_t)-more : least + (size_t)more;
 }
 
-/* The written mappings, and behind them words that are not 0, so that a change is noticed. */
-static const uint64_t *old_words(const struct mapping *old)
+/* The written mappings, and zeros behind them. */
+static uint64_t *old_words(const struct mapping *old)
 {
     static const struct mapping none = NONE;
     static uint64_t words[LONGEST_TABLE];
-    memset(words, UNWRITTEN_BYTE, sizeof words);
+    memset(words, 0, sizeof words);
     for (size_t i = 0; i < MOST_WRITTEN && memcmp(&old[i], &none, sizeof none) != 0; i++) {
         memcpy(words + i * MAPPING_WORDS, &old[i], sizeof old[i]);
     }
     return words;
+}
+
+/* Whether it is refused before the words behind the count are looked at. */
+static int comes_before_17(uint64_t refusal)
+{
+    return (refusal >= 1 && refusal <= 5) || (refusal >= 12 && refusal <= 14);
+}
+
+/* As it is; and with stale words behind the count: everywhere, the first alone, the last alone. */
+static int run_stale_too(struct call *call, const waylluqen_request *request, uint64_t *old)
+{
+    size_t end = call->table_words;
+    if (run(call, request, old)) {
+        return 1;
+    }
+    if (call->count >= end / MAPPING_WORDS) {
+        return 0;
+    }
+    size_t first = call->count * MAPPING_WORDS;
+    const size_t stale[][2] = {{first, end}, {first, first + 1}, {end - 1, end}};
+    if (!comes_before_17(call->expected.refusal)) {
+        call->expected = (waylluqen_answer)REFUSED(17, call->count);
+    }
+    for (size_t i = 0; i < NUMBER(stale); i++) {
+        memset(old + first, 0, (end - first) * sizeof *old);
+        memset(old + stale[i][0], UNWRITTEN_BYTE, (stale[i][1] - stale[i][0]) * sizeof *old);
+        if (run(call, request, old)) {
+            return 1;
+        }
+    }
+    return 0;
 }
 
 static int run_case(const struct test_case *test)
@@ -758,7 +838,7 @@ static int run_case(const struct test_case *test)
                         .list_words = list_words(test->table_words, test->more_words),
                         .new_words = new_words,
                         .new_list = new_list};
-    return run(&call, &test->request, old_words(test->old));
+    return run_stale_too(&call, &test->request, old_words(test->old));
 }
 
 static int run_refusal(const struct refusal_case *test)
@@ -769,7 +849,7 @@ static int run_refusal(const struct refusal_case *test)
                         .count = test->count,
                         .table_words = test->table_words,
                         .list_words = list_words(test->table_words, test->more_words)};
-    return run(&call, &test->request, old_words(test->old));
+    return run_stale_too(&call, &test->request, old_words(test->old));
 }
 
 static int run_record(const struct record_case *test)
@@ -785,7 +865,14 @@ static int run_record(const struct record_case *test)
     uint8_t bytes[LONGEST_RECORD];
     memset(bytes, UNWRITTEN_BYTE, sizeof bytes);
     encode(bytes, &test->record);
-    lend_both(&call, old_words(five), 0, 0);
+    uint64_t *words = old_words(five);
+    lend_both(&call, words, 0, 0);
+    if (differs(&call, NULL, bytes, test->record_bytes)) {
+        return 1;
+    }
+    /* A stale word comes behind all these. */
+    words[6 * MAPPING_WORDS - 1] = 1;
+    lend_both(&call, words, 0, 0);
     return differs(&call, NULL, bytes, test->record_bytes);
 }
 
@@ -809,9 +896,7 @@ static int run_full(const struct full_case *test)
     const struct mapping mapped = {request->address, request->size, request->object,
                                    request->offset};
     size_t operations = 0;
-    for (size_t place = 0; place < MOST_MAPPINGS; place++) {
-        old[place] = (struct mapping)P(4 * place, 4 * place + 3, place + 1, place);
-    }
+    fill_places(old, MOST_MAPPINGS);
     if (test->expected.refusal == WAYLLUQEN_REFUSED_BAD_MAPPING) {
         old[test->expected.place].object = 0;
     }
@@ -822,7 +907,7 @@ static int run_full(const struct full_case *test)
     list[operations] = (struct operation){WAYLLUQEN_KIND_MAP, 0, mapped, NONE, NONE};
     replace(new, old, test->first_hit, test->hit_end, maps ? &mapped : NULL);
     struct call call = {.name = test->name,
-                        .space = FULL_SPACE,
+                        .space = PLACES_SPACE,
                         .expected = test->expected,
                         .count = MOST_MAPPINGS,
                         .table_words = MOST_MAPPINGS * MAPPING_WORDS,
@@ -832,12 +917,54 @@ static int run_full(const struct full_case *test)
     return run(&call, request, (const uint64_t *)(const void *)old);
 }
 
-#define NUMBER(cases) (sizeof(cases) / sizeof(cases)[0])
+/* Asks by numbers and by record, with each word behind the count stale in its turn. No lent word
+ * may change: the stale one is looked at in its turn, all others when all is asked. */
+static int stale_differs(const struct call *call, const waylluqen_request *request,
+                         const uint8_t *record)
+{
+    foresee(call, left_table, left_list);
+    for (size_t at = call->count * MAPPING_WORDS; at < call->table_words; at++) {
+        call->table[at] = stale_word(at);
+        int wrong = is_wrong(call, request, NULL, 0) || is_wrong(call, NULL, record, RECORD_BYTES);
+        if (wrong || call->table[at] != stale_word(at)) {
+            printf("host/c: stale word %zu, %" PRIu64 " mappings in %zu words: %s\n", at,
+                   call->count, call->table_words, wrong ? "taken" : "changed");
+            return 1;
+        }
+        call->table[at] = 0;
+    }
+    return is_left_otherwise(call);
+}
+
+/* Each stale word at the front and at the back of the memory. */
+static int run_stale(const struct stale_table *test)
+{
+    static struct mapping old[MOST_MAPPINGS];
+    const waylluqen_request request = {WAYLLUQEN_OP_MAP, 0, PAGE, 5, 0};
+    const struct record fields = {.object = 5, .size = PAGE};
+    struct call call = {.name = "a stale word",
+                        .space = PLACES_SPACE,
+                        .expected = REFUSED(17, test->count),
+                        .count = test->count,
+                        .table_words = test->capacity * MAPPING_WORDS,
+                        .list_words = list_words(test->capacity * MAPPING_WORDS, 0)};
+    uint8_t record[RECORD_BYTES];
+    encode(record, &fields);
+    memset(old, 0, sizeof old);
+    fill_places(old, test->count);
+    for (int at_back = 0; at_back <= 1; at_back++) {
+        lend_both(&call, (const uint64_t *)(const void *)old, at_back, at_back);
+        if (stale_differs(&call, &request, record)) {
+            return 1;
+        }
+    }
+    return 0;
+}
 
 int main(void)
 {
     const size_t all = NUMBER(grants) + NUMBER(refusals) + NUMBER(records) + NUMBER(full_cases);
-    size_t failed = 0;
+    size_t failed = 0, stale = 0;
 
     if (!prepare(&lent_table, LONGEST_TABLE) || !prepare(&lent_list, LONGEST_LIST)) {
         printf("host/c: mmap failed\n");
@@ -855,10 +982,11 @@ int main(void)
     for (size_t i = 0; i < NUMBER(full_cases); i++) {
         failed += (size_t)run_full(&full_cases[i]);
     }
+    failed += run_stale_tables(run_stale, &stale);
     if (failed != 0) {
-        printf("host/c: %zu of %zu requests failed\n", failed, all);
+        printf("host/c: %zu of %zu requests and stale tables failed\n", failed, all + stale);
         return 1;
     }
-    printf("host/c: %zu requests passed\n", all);
+    printf("host/c: %zu requests, and each stale word of %zu tables, passed\n", all, stale);
     return 0;
 }

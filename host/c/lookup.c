@@ -48,8 +48,14 @@ struct test_case {
 #define APART(name, expected, address) \
     {name, expected, COMMON, address, FULL(2), \
      {{0x110000, 0x1000, 7, 0}, {0x1c0000, 0x1000, 8, 0}}}
-/* No mapping, though words behind the count look like some. */
-#define EMPTY(name, expected, space, address) {name, expected, space, address, 0, 20, FIVE}
+/* No mapping, in room for five. */
+#define NONE {0, 0, 0, 0}
+#define EMPTY(name, expected, space, address) {name, expected, space, address, 0, 20, {NONE}}
+/* The five, of which the count has fewer. */
+#define FEWER(name, expected, count, address) {name, expected, COMMON, address, count, 20, FIVE}
+/* The first, and a stale one behind it. */
+#define STALE(name, address, ...) \
+    {name, REFUSED(17), COMMON, address, 1, 8, {FIRST, {__VA_ARGS__}}}
 /* Five of which some are replaced. */
 #define OF_FIVE(name, expected, ...) {name, expected, COMMON, 0x100000, FULL(5), {__VA_ARGS__}}
 /* A space, with the five mappings, all of which are in the common one. */
@@ -207,11 +213,14 @@ static const struct test_case cases[] = {
     {"length before mappings", REFUSED(2), COMMON, 0x100000, 1, 7, {ONES}},
 
     /* 4: the count. */
-    {"count 0", NOTHING(0x100000), COMMON, 0x100000, 0, 20, FIVE},
-    {"count 0 of one", NOTHING(0x100000), COMMON, 0x100000, 0, 4, {ONES}},
-    {"count below the room", SHOWS(1, 0x5000, 0x1000), COMMON, 0x180000, 4, 20, FIVE},
-    {"the first word behind the count", NOTHING(0x1000), COMMON, 0x1ff000, 4, 20, FIVE},
-    {"to the end, past what is behind the count", NOTHING(0x7f000), COMMON, 0x181000, 4, 20, FIVE},
+    {"count 0", NOTHING(0x100000), COMMON, 0x100000, 0, 20, {NONE}},
+    {"count 0 of one", NOTHING(0x100000), COMMON, 0x100000, 0, 4, {NONE}},
+    {"count below the room", SHOWS(1, 0x5000, 0x1000), COMMON, 0x180000, 4, 20,
+     {FIRST, SECOND, THIRD, FOURTH}},
+    {"the last page, count below the room", NOTHING(0x1000), COMMON, 0x1ff000, 4, 20,
+     {FIRST, SECOND, THIRD, FOURTH}},
+    {"to the end, count below the room", NOTHING(0x7f000), COMMON, 0x181000, 4, 20,
+     {FIRST, SECOND, THIRD, FOURTH}},
     {"count a mapping above", REFUSED(4), COMMON, 0x100000, 6, 20, FIVE},
     {"count of the words", REFUSED(4), COMMON, 0x100000, 20, 20, FIVE},
     {"count 2^32 above", REFUSED(4), COMMON, 0x100000, (UINT64_C(1) << 32) + 5, 20, FIVE},
@@ -220,9 +229,29 @@ static const struct test_case cases[] = {
     {"count 513 of 512", REFUSED(4), COMMON, 0x100000, 513, 2048, FIVE},
     {"count above the most", REFUSED(4), COMMON, 0x100000, 4097, 16384, FIVE},
     {"count before mappings", REFUSED(4), COMMON, 0x100000, 2, 4, {ONES}},
-    {"bad mapping behind the count", SHOWS(7, 0x3000, 0x2000), COMMON, 0x100000, 1, 8,
-     {FIRST, ONES}},
+
+    /* 17: the words behind the count, whatever is looked up. */
+    FEWER("count 0 of five", REFUSED(17), 0, 0x100000),
+    FEWER("count 1 of five", REFUSED(17), 1, 0x100000),
+    FEWER("count one too low", REFUSED(17), 4, 0x180000),
+    FEWER("count one too low, at what is behind", REFUSED(17), 4, 0x1ff000),
+    FEWER("count one too low, in a gap", REFUSED(17), 4, 0x181000),
+    FEWER("count one too low, outside", REFUSED(17), 4, 0x200000),
+    FEWER("count one too low, highest address", REFUSED(17), 4, UINT64_MAX),
+    {"count 0 of bad words", REFUSED(17), COMMON, 0x100000, 0, 4, {ONES}},
+    {"all is reserved, stale", REFUSED(17), ALL_RESERVED, 0x150000, 0, 4, {ONES}},
+    STALE("bad mapping behind the count", 0x100000, 1, 1, 1, 1),
+    STALE("a stale address", 0x100000, PAGE, 0, 0, 0),
+    STALE("a stale size", 0x102000, 0, 1, 0, 0),
+    STALE("a stale object", 0, 0, 0, UINT64_C(1) << 32, 0),
+    STALE("a stale offset", 0x100000, 0, 0, 0, HALF),
     {"bad mapping at the count", BAD_PLACE(1), COMMON, 0x100000, 2, 8, {FIRST, ONES}},
+    {"space before stale words", REFUSED(1), SPACE(1, PAGE, 0, 0), 0x100000, 1, 8, {FIRST, ONES}},
+    {"length before stale words", REFUSED(2), COMMON, 0x100000, 1, 7, {FIRST, ONES}},
+    {"count before stale words", REFUSED(4), COMMON, 0x100000, 2, 4, {FIRST, ONES}},
+    {"mapping before stale words", BAD_PLACE(0), COMMON, 0x100000, 1, 8, {ONES, ONES}},
+    {"last mapping before stale words", BAD_PLACE(2), COMMON, 0x100000, 3, 16,
+     {FIRST, SECOND, ONES, ONES}},
 
     /* 5: multiples of a page, and size 0. */
     ALONE("one page", SHOWS(7, PAGE, PAGE), 0x100000, PAGE, 7, PAGE),
@@ -279,7 +308,7 @@ static const struct test_case cases[] = {
     {"nothing is reserved", SHOWS(7, 0, PAGE), FREE, 0x150000, FULL(1), {{0x150000, PAGE, 7, 0}}},
     {"nothing is reserved, address 0", SHOWS(7, 0, PAGE), WIDEST, 0, FULL(1), {{0, PAGE, 7, 0}}},
     {"all is reserved", BAD_PLACE(0), ALL_RESERVED, 0x150000, FULL(1), {{0x150000, PAGE, 7, 0}}},
-    {"all is reserved, no mapping", NOTHING(0xb0000), ALL_RESERVED, 0x150000, 0, 4, {ONES}},
+    {"all is reserved, no mapping", NOTHING(0xb0000), ALL_RESERVED, 0x150000, 0, 4, {NONE}},
 
     /* 5: the order. */
     PAIR("apart", SHOWS(7, 0, 0x2000), 0x100000, 0x2000, 0x103000, 0x1000),
@@ -356,17 +385,25 @@ static const struct row rows[] = {
 
 static struct lent lent;
 
+#define READ_AND_WRITE (PROT_READ | PROT_WRITE)
+
+/* Lets the memory be read, or written too. Answers 0 where that can't be done. */
+static int allow(int what)
+{
+    return mprotect(lent.memory, lent.bytes, what) == 0;
+}
+
 /*
  * Lends the words at the front or at the back of the memory, which is read-only: a write ends the
  * test too. Answers NULL where it can't be done.
  */
 static const uint64_t *lend_to_read(const uint64_t *words, size_t table_words, int at_back)
 {
-    if (mprotect(lent.memory, lent.bytes, PROT_READ | PROT_WRITE) != 0) {
+    if (!allow(READ_AND_WRITE)) {
         return NULL;
     }
     const uint64_t *table = lend(&lent, words, table_words, at_back);
-    return mprotect(lent.memory, lent.bytes, PROT_READ) == 0 ? table : NULL;
+    return allow(PROT_READ) ? table : NULL;
 }
 
 static void print_answer(const char *what, waylluqen_translation answer)
@@ -417,13 +454,30 @@ static int differs(const struct test_case *test, const uint64_t *words)
     return 0;
 }
 
+/* As it is; and with stale words behind the count, as far as there are words: everywhere, the first
+ * alone, the last alone. They come behind all other refusals. */
 static int run_case(const struct test_case *test)
 {
-    /* What follows the written mappings is not 0, so that looking at it would be noticed. */
     static uint64_t words[LONGEST_TABLE];
-    memset(words, UNWRITTEN_BYTE, sizeof words);
+    struct test_case stale = *test;
+    size_t first = test->count * MAPPING_WORDS, end = test->table_words;
+    const size_t places[][2] = {{first, end}, {first, first + 1}, {end - 1, end}};
+    if (test->expected.refusal == WAYLLUQEN_OK) {
+        stale.expected = (waylluqen_translation)REFUSED(17);
+    }
+    memset(words, 0, sizeof words);
     memcpy(words, test->table, sizeof test->table);
-    return differs(test, words);
+    int wrong = differs(test, words);
+    if (test->count >= end / MAPPING_WORDS) {
+        return wrong;
+    }
+    for (size_t i = 0; i < sizeof places / sizeof places[0] && !wrong; i++) {
+        memset(words + first, 0, (end - first) * sizeof *words);
+        memset(words + places[i][0], UNWRITTEN_BYTE,
+               (places[i][1] - places[i][0]) * sizeof *words);
+        wrong = differs(&stale, words);
+    }
+    return wrong;
 }
 
 static int run_full_case(const struct full_case *full)
@@ -513,8 +567,8 @@ static int walk_differs(struct test_case *test, const uint64_t *table,
     return 1;
 }
 
-/* Every edge of a row and of its space, and a walk over it. */
-static int run_row(const struct row *row)
+/* Every edge of a row and of its space, and a walk over it, with room for so many mappings. */
+static int run_row(const struct row *row, size_t capacity)
 {
     static struct mapping mappings[MOST_MAPPINGS];
     static uint64_t words[MOST_MAPPINGS * MAPPING_WORDS];
@@ -522,7 +576,8 @@ static int run_row(const struct row *row)
     const uint64_t edges[] = {0, LIMIT, HALF, space.start, space.start + space.size,
                               space.reserved_start, space.reserved_start + space.reserved_size};
     struct test_case test = {.name = row->name, .space = space, .count = row->count};
-    test.table_words = (row->count > 0 ? row->count : 1) * MAPPING_WORDS;
+    test.table_words = capacity * MAPPING_WORDS;
+    memset(mappings, 0, sizeof mappings);
     fill_row(row, mappings);
     memcpy(words, mappings, sizeof words);
     const uint64_t *table = lend_to_read(words, test.table_words, 1);
@@ -544,12 +599,55 @@ static int run_row(const struct row *row)
     return walk_differs(&test, table, mappings);
 }
 
+/* A row without room for more, and with room for some more, as far as there can be room. */
+static int run_row_with_room(const struct row *row)
+{
+    size_t capacity = row->count > 0 ? row->count : 1;
+    return run_row(row, capacity) || (capacity < MOST_MAPPINGS && run_row(row, capacity + 19));
+}
+
+/* Looks up with each word behind the count stale in its turn, at the front or at the back of the
+ * memory, which is read-only then. */
+static int stale_differs(const struct test_case *test, const uint64_t *words, int at_back)
+{
+    if (!allow(READ_AND_WRITE)) {
+        printf("host/c: %s: mprotect failed\n", test->name);
+        return 1;
+    }
+    uint64_t *table = lend(&lent, words, test->table_words, at_back);
+    for (size_t at = test->count * MAPPING_WORDS; at < test->table_words; at++) {
+        table[at] = stale_word(at);
+        if (!allow(PROT_READ) || is_wrong(test, table) || !allow(READ_AND_WRITE)) {
+            printf("host/c: stale word %zu, %" PRIu64 " mappings in %zu words\n", at, test->count,
+                   test->table_words);
+            return 1;
+        }
+        table[at] = 0;
+    }
+    return 0;
+}
+
+static int run_stale(const struct stale_table *stale)
+{
+    static struct mapping mappings[MOST_MAPPINGS];
+    static uint64_t words[MOST_MAPPINGS * MAPPING_WORDS];
+    struct test_case test = {.name = "a stale word",
+                             .expected = REFUSED(17),
+                             .space = PLACES_SPACE,
+                             .count = stale->count,
+                             .table_words = stale->capacity * MAPPING_WORDS};
+    memset(mappings, 0, sizeof mappings);
+    fill_places(mappings, stale->count);
+    memcpy(words, mappings, sizeof words);
+    return stale_differs(&test, words, 0) || stale_differs(&test, words, 1);
+}
+
 int main(void)
 {
     const size_t count = sizeof cases / sizeof cases[0];
     const size_t full_count = sizeof full_cases / sizeof full_cases[0];
     const size_t row_count = sizeof rows / sizeof rows[0];
-    size_t failed = 0;
+    size_t failed = 0, stale = 0;
 
     if (!prepare(&lent, LONGEST_TABLE)) {
         printf("host/c: mmap failed\n");
@@ -562,14 +660,15 @@ int main(void)
         failed += (size_t)run_full_case(&full_cases[i]);
     }
     for (size_t i = 0; i < row_count; i++) {
-        failed += (size_t)run_row(&rows[i]);
+        failed += (size_t)run_row_with_room(&rows[i]);
     }
+    failed += run_stale_tables(run_stale, &stale);
     if (failed != 0) {
-        printf("host/c: %zu of %zu look-ups and rows failed\n", failed,
-               count + full_count + row_count);
+        printf("host/c: %zu of %zu look-ups, rows and stale tables failed\n", failed,
+               count + full_count + row_count + stale);
         return 1;
     }
-    printf("host/c: %zu look-ups and the edges of %zu rows passed\n", count + full_count,
-           row_count);
+    printf("host/c: %zu look-ups, the edges of %zu rows, ", count + full_count, row_count);
+    printf("and each stale word of %zu tables, passed\n", stale);
     return 0;
 }

@@ -79,8 +79,47 @@ static inline void encode(uint8_t bytes[RECORD_BYTES], const struct record *reco
     put(to, record->size, 8);
 }
 
-/* What lies around lent words, and in those that nobody has written. */
+/* What lies around lent words, in operation words that nobody has written, and in stale words. */
 #define UNWRITTEN_BYTE 0xa5
+
+/* Place p has pages [4p, 4p + 3) and object p + 1. */
+#define PLACES_SPACE {0, 4 * MOST_MAPPINGS * PAGE, 0, 0}
+static inline void fill_places(struct mapping *to, size_t count)
+{
+    for (size_t place = 0; place < count; place++) {
+        to[place] = (struct mapping){4 * place * PAGE, 3 * PAGE, place + 1, place * PAGE};
+    }
+}
+
+/* A table in which each word behind the count is stale in its turn. */
+struct stale_table {
+    uint64_t count;
+    size_t capacity;
+};
+
+/* One bit: another one than in the words beside it, and than in the word 64 further on. */
+static inline uint64_t stale_word(size_t at)
+{
+    return UINT64_C(1) << (at + at / 64) % 64;
+}
+
+/* Runs all tables with room for up to 20 mappings, and some with more; answers how many failed. */
+static inline size_t run_stale_tables(int (*fails)(const struct stale_table *), size_t *all)
+{
+    static const struct stale_table longer[] = {
+        {100, 513}, {0, 4096}, {5, 4096}, {2049, 4096}, {4095, 4096},
+    };
+    size_t failed = 0;
+    for (struct stale_table table = {0, 1}; table.capacity <= 20; table.capacity++) {
+        for (table.count = 0; table.count < table.capacity; table.count++, ++*all) {
+            failed += (size_t)fails(&table);
+        }
+    }
+    for (size_t i = 0; i < sizeof longer / sizeof longer[0]; i++, ++*all) {
+        failed += (size_t)fails(&longer[i]);
+    }
+    return failed;
+}
 
 /* Memory between two pages that may not be touched, and how much of it there is. */
 struct lent {
