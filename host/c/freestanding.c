@@ -29,7 +29,7 @@ void *memset(void *to, int byte, size_t bytes)
     return to;
 }
 
-/* In the hole, up to what is left behind it; and in that, up to its end. */
+/* In the hole, up to what is left behind it; in that, up to its end; with a count too low. */
 static int look_up(waylluqen_space space, const uint64_t *table, size_t table_words, uint64_t count)
 {
     waylluqen_translation seen = waylluqen_lookup(space, table, table_words, count, 0x101ff8);
@@ -39,6 +39,10 @@ static int look_up(waylluqen_space space, const uint64_t *table, size_t table_wo
     seen = waylluqen_lookup(space, table, table_words, count, 0x102008);
     if (seen.refusal != WAYLLUQEN_OK || seen.shown != WAYLLUQEN_SHOWN_OBJECT || seen.object != 7 ||
         seen.offset != 0x2008 || seen.bytes != 0xff8) {
+        return __LINE__;
+    }
+    seen = waylluqen_lookup(space, table, table_words, count - 1, 0x102008);
+    if (seen.refusal != WAYLLUQEN_REFUSED_STALE_WORDS || seen.bytes != 0) {
         return __LINE__;
     }
     return 0;

@@ -107,14 +107,14 @@ static size_t painted(void (*make)(void), uint8_t paint)
     return (size_t)(before - (stack + lowest));
 }
 
-/* Page 4p is the first of the three that place p has; the fourth is a gap. Behind the last are four pages more. */
-static void fill_table(size_t room, size_t count, size_t bad_place, int behind)
+/* Mappings as fill_places() has them, and zeros behind. Behind the pages of the last place are four more. */
+static void fill_table(size_t room, size_t count)
 {
-    memset(table, behind, sizeof table);
-    for (size_t place = 0; place < count; place++) {
-        const struct mapping mapping = {4 * place * PAGE, 3 * PAGE, place == bad_place ? 0 : place + 1, place * PAGE};
-        memcpy(table + place * MAPPING_WORDS, &mapping, sizeof mapping);
-    }
+    static struct mapping mappings[MOST_MAPPINGS];
+    memset(mappings, 0, sizeof mappings);
+    fill_places(mappings, count);
+    memset(table, UNWRITTEN_BYTE, sizeof table);
+    memcpy(table, mappings, room * sizeof *mappings);
     call.space = (waylluqen_space){0, 4 * (room + 1) * PAGE, 0, 0};
     call.table_words = room * MAPPING_WORDS;
     call.list_words = WAYLLUQEN_OPERATION_LIST_WORDS(room);
@@ -124,6 +124,9 @@ static void fill_table(size_t room, size_t count, size_t bad_place, int behind)
 /* Which place a request is about; ALL is about all of them. */
 enum where { FIRST_PLACE, MIDDLE_PLACE, LAST_PLACE, ALL };
 
+/* What is wrong with the table: the mapping at the place; a word behind the last mapping, the first or the last. */
+enum fault { NO_FAULT, BAD_PLACE, STALE_FIRST, STALE_LAST };
+
 /* On a table that has room for `spare` mappings more: what is asked for, in pages from the place's first on. */
 struct test_case {
     uint64_t refusal;
@@ -132,15 +135,14 @@ struct test_case {
     uint64_t op;
     uint64_t from;
     uint64_t to;
-    int bad;   /* whether the mapping at the place is bad */
-    int zeros; /* whether the words behind the last mapping are zero already */
+    enum fault fault;
 };
 
 /* As much as there is room for: no mapping is in the table. */
 #define EMPTY SIZE_MAX
 
-#define MAPS(where, from, to) where, WAYLLUQEN_OP_MAP, from, to, 0, 0
-#define UNMAPS(where, from, to) where, WAYLLUQEN_OP_UNMAP, from, to, 0, 0
+#define MAPS(where, from, to) where, WAYLLUQEN_OP_MAP, from, to, NO_FAULT
+#define UNMAPS(where, from, to) where, WAYLLUQEN_OP_UNMAP, from, to, NO_FAULT
 
 static const struct test_case cases[] = {
     /* Those behind move up: by one, into a gap or for a hole; by two. */
@@ -163,15 +165,17 @@ static const struct test_case cases[] = {
     {0, 0, MAPS(FIRST_PLACE, 0, 3)},
     {0, 0, UNMAPS(MIDDLE_PLACE, 1, 4)},
     {0, 0, UNMAPS(LAST_PLACE, 3, 4)},
-    /* Into an empty table, of any words behind or of zeros: what is behind is looked at, and cleared. */
+    /* Into an empty table: all that is behind is looked at. */
     {0, EMPTY, MAPS(FIRST_PLACE, 0, 3)},
-    {0, EMPTY, FIRST_PLACE, WAYLLUQEN_OP_MAP, 0, 3, 0, 1},
     {0, EMPTY, UNMAPS(LAST_PLACE, 0, 3)},
-    {0, EMPTY, LAST_PLACE, WAYLLUQEN_OP_UNMAP, 0, 3, 0, 1},
-    /* Refusals: of the mappings, of the request, and for want of room. */
-    {5, 0, FIRST_PLACE, WAYLLUQEN_OP_MAP, 0, 3, 1, 0},
-    {5, 0, MIDDLE_PLACE, WAYLLUQEN_OP_MAP, 0, 3, 1, 0},
-    {5, 0, LAST_PLACE, WAYLLUQEN_OP_UNMAP, 0, 3, 1, 0},
+    /* Refusals: of the mappings, of the words behind them, of the request, and for want of room. */
+    {5, 0, FIRST_PLACE, WAYLLUQEN_OP_MAP, 0, 3, BAD_PLACE},
+    {5, 0, MIDDLE_PLACE, WAYLLUQEN_OP_MAP, 0, 3, BAD_PLACE},
+    {5, 0, LAST_PLACE, WAYLLUQEN_OP_UNMAP, 0, 3, BAD_PLACE},
+    {17, 1, FIRST_PLACE, WAYLLUQEN_OP_MAP, 3, 4, STALE_FIRST},
+    {17, 1, LAST_PLACE, WAYLLUQEN_OP_UNMAP, 0, 3, STALE_LAST},
+    {17, EMPTY, FIRST_PLACE, WAYLLUQEN_OP_MAP, 0, 3, STALE_FIRST},
+    {17, EMPTY, FIRST_PLACE, WAYLLUQEN_OP_UNMAP, 0, 3, STALE_LAST},
     {6, 0, MAPS(FIRST_PLACE, 3, 3)},
     {7, 0, MAPS(LAST_PLACE, 0, 9)},
     {11, 0, MAPS(FIRST_PLACE, 3, 4)},
@@ -183,6 +187,23 @@ static void fail(const char *what, const char *why, uint64_t number)
 {
     printf("host/c: stack: %s: %s %" PRIu64 "\n", what, why, number);
     exit(1);
+}
+
+static void break_table(enum fault fault, size_t place)
+{
+    switch (fault) {
+    case BAD_PLACE:
+        table[place * MAPPING_WORDS + WAYLLUQEN_MAPPING_OBJECT] = 0;
+        break;
+    case STALE_FIRST:
+        table[call.count * MAPPING_WORDS] = 1;
+        break;
+    case STALE_LAST:
+        table[call.table_words - 1] = 1;
+        break;
+    case NO_FAULT:
+        break;
+    }
 }
 
 /* Lends what a case needs, with room for so many mappings, and asks for it in every form. */
@@ -198,7 +219,8 @@ static void lend_case(const struct test_case *test, size_t room)
                             .address = (4 * place + test->from) * PAGE,
                             .size = (4 * (end - place) + test->to - test->from) * PAGE};
 
-    fill_table(room, count, test->bad ? place : room, test->zeros ? 0 : UNWRITTEN_BYTE);
+    fill_table(room, count);
+    break_table(test->fault, place);
     call.request = (waylluqen_request){fields.op, fields.address, fields.size, fields.object, 0};
     call.address = fields.address;
     encode(call.record, &fields);
@@ -208,7 +230,8 @@ static void lend_case(const struct test_case *test, size_t room)
 static uint64_t refusal_of(const struct test_case *test, int which)
 {
     int is_request = test->refusal == 6 || test->refusal == 7;
-    int is_told = which == BIND || which == BIND_RECORD || (which == LOOKUP ? test->bad : is_request);
+    int is_table = test->fault != NO_FAULT;
+    int is_told = which == BIND || which == BIND_RECORD || (which == LOOKUP ? is_table : is_request);
     return is_told ? test->refusal : 0;
 }
 
