@@ -479,6 +479,8 @@ static const struct refusal_case refusals[] = {
     STALE("a stale size", GOOD_UNMAP, {0, 1, 0, 0}),
     STALE("a stale object", GOOD_MAP, {0, 0, BIT_32, 0}),
     STALE("a stale offset", GOOD_UNMAP, {0, 0, 0, HALF}),
+    STALE("two that add up to 0", GOOD_MAP, {1, UINT64_MAX, 0, 0}),
+    STALE("two alike", GOOD_UNMAP, {0, 0, HALF, HALF}),
     STALE("stale, nothing hit", REQUEST(1, 0x104000, PAGE, 0, 0), {0, 0, 0, 1}),
     STALE("stale, two would go", REQUEST(1, 0x180000, 0x80000, 0, 0), ONES),
 

@@ -245,6 +245,8 @@ static const struct test_case cases[] = {
     STALE("a stale size", 0x102000, 0, 1, 0, 0),
     STALE("a stale object", 0, 0, 0, UINT64_C(1) << 32, 0),
     STALE("a stale offset", 0x100000, 0, 0, 0, HALF),
+    STALE("two that add up to 0", 0x100000, 1, UINT64_MAX, 0, 0),
+    STALE("two alike", 0x100000, 0, 0, HALF, HALF),
     {"bad mapping at the count", BAD_PLACE(1), COMMON, 0x100000, 2, 8, {FIRST, ONES}},
     {"space before stale words", REFUSED(1), SPACE(1, PAGE, 0, 0), 0x100000, 1, 8, {FIRST, ONES}},
     {"length before stale words", REFUSED(2), COMMON, 0x100000, 1, 7, {FIRST, ONES}},
