@@ -420,16 +420,28 @@ static void ask_by_record(struct address_space *space)
     }
 }
 
-/* A stray write into the table: the next call tells which mapping it hit. */
-static void ask_with_broken_table(const struct address_space *space)
+static void ask_in_vain(struct address_space *broken, const char *what)
 {
-    struct address_space broken = *space;
+    struct address_space before = *broken;
     waylluqen_request request = {WAYLLUQEN_OP_UNMAP, 0x100000, 1 * PAGE, 0, 0};
-    broken.table.words[2 * WAYLLUQEN_MAPPING_WORDS + WAYLLUQEN_MAPPING_SIZE]++;
-    printf("unmap in a broken table\n");
-    if (bind(&broken, request) != REFUSED) {
+    printf("%s\n", what);
+    if (bind(broken, request) != REFUSED) {
         fail("a broken table was taken at", request.address);
     }
+    if (memcmp(broken, &before, sizeof before) != 0) {
+        fail("a refused request changed a broken table at", request.address);
+    }
+}
+
+/* A stray write into the table: the next call tells which mapping it hit. A count that was not kept
+ * up: the next call does not take what it tells of for the whole table. */
+static void ask_with_broken_table(const struct address_space *space)
+{
+    struct address_space broken = *space, forgetful = *space;
+    broken.table.words[2 * WAYLLUQEN_MAPPING_WORDS + WAYLLUQEN_MAPPING_SIZE]++;
+    forgetful.table.count--;
+    ask_in_vain(&broken, "unmap in a broken table");
+    ask_in_vain(&forgetful, "unmap with a count that is too low");
 }
 
 /* Lets a request fail after no page entry, after one and so on, until it goes through. */

@@ -424,15 +424,27 @@ fn ask_by_record(space: &mut AddressSpace) -> Result<(), Box<dyn Error>> {
     Ok(())
 }
 
-/// A stray write into the table: the next call tells which mapping it hit.
+/// A stray write into the table: the next call tells which mapping it hit. A count that was not kept
+/// up: the next call does not take what it tells of for the whole table.
 fn ask_with_broken_table(space: &AddressSpace) -> Result<(), Box<dyn Error>> {
     let mut broken = space.clone();
     broken.table.words[table_words(2) + 1] += 1;
-    println!("unmap in a broken table");
-    let Err(failure) = broken.bind(Request::unmap(0x10_0000, PAGE)) else {
-        return Err("a broken table was taken".into());
-    };
-    println!("  {failure}");
+    let mut forgetful = space.clone();
+    forgetful.table.count -= 1;
+    for (what, mut space) in [
+        ("unmap in a broken table", broken),
+        ("unmap with a count that is too low", forgetful),
+    ] {
+        println!("{what}");
+        let before = space.clone();
+        let Err(failure) = space.bind(Request::unmap(0x10_0000, PAGE)) else {
+            return Err("a broken table was taken".into());
+        };
+        println!("  {failure}");
+        if space != before {
+            return Err("a refused request changed a broken table".into());
+        }
+    }
     Ok(())
 }
 
