@@ -920,15 +920,16 @@ static int run_full(const struct full_case *test)
 }
 
 /* Asks by numbers and by record, with each word behind the count stale in its turn. No lent word
- * may change: the stale one is looked at in its turn, all others when all is asked. */
+ * may change: each of these is looked at in its turn, and all when all is asked. */
 static int stale_differs(const struct call *call, const waylluqen_request *request,
                          const uint8_t *record)
 {
     foresee(call, left_table, left_list);
     for (size_t at = call->count * MAPPING_WORDS; at < call->table_words; at++) {
+        int changed = call->table[at] != 0;
         call->table[at] = stale_word(at);
         int wrong = is_wrong(call, request, NULL, 0) || is_wrong(call, NULL, record, RECORD_BYTES);
-        if (wrong || call->table[at] != stale_word(at)) {
+        if (wrong || changed || call->table[at] != stale_word(at)) {
             printf("host/c: stale word %zu, %" PRIu64 " mappings in %zu words: %s\n", at,
                    call->count, call->table_words, wrong ? "taken" : "changed");
             return 1;
