@@ -144,14 +144,17 @@ pub record Exactly : Type 0 where
       → (bind s t os q .table ≡ t .words) × (bind s t os q .operations ≡ os)
   pub lookup-only : (s : Space) (t : Table) (x n p : ℕ) → lookup s t x ≡ refused n p → n ∈ (1 ∷ 2 ∷ 4 ∷ 5 ∷ 17 ∷ [])
 
--- document 02: so the words of a table that a call takes are its mappings' and zeros behind them; an empty one is zeros
-abbrev pub MappingsOnly : Table → Type 0
-MappingsOnly t = t .words ≡ written (length (t .words)) (mappings t)
+-- a call takes the table: a look-up in it is answered, or a request on it granted
+pub data Taken (t : Table) : Type 0 where
+  seen : (s : Space) (x : ℕ) (v : Seen) → lookup s t x ≡ answered v → Taken t
+  granted : (s : Space) (os : List ℕ) (q : Asking) (g : Grant) → bind s t os q .answer ≡ answered g → Taken t
 
-pub record TakesMappingsOnly : Type 0 where
-  pub of-bind : (s : Space) (t : Table) (os : List ℕ) (q : Asking) (g : Grant) → bind s t os q .answer ≡ answered g → MappingsOnly t
-  pub of-lookup : (s : Space) (t : Table) (x : ℕ) (v : Seen) → lookup s t x ≡ answered v → MappingsOnly t
-  pub empty : (t : Table) → MappingsOnly t → t .count ≡ 0 → t .words ≡ replicate (length (t .words)) 0
+-- document 02: what 17 is for. Such a table has its mappings and zeros behind them, to the last word; an empty one is
+-- zeros; and its words are taken with this count alone, so that no half of a table is served
+pub record TakesWhole : Type 0 where
+  pub words : (t : Table) → Taken t → t .words ≡ written (length (t .words)) (mappings t)
+  pub empty : (t : Table) → Taken t → t .count ≡ 0 → t .words ≡ replicate (length (t .words)) 0
+  pub one-count : (t u : Table) → Taken t → Taken u → t .words ≡ u .words → t .count ≡ u .count
 
 -- what comes is what was asked: a request whose numbers fit a record's fields as 40 bytes; one whose flags and pad are
 -- 0 by numbers
