@@ -1,5 +1,5 @@
-// The check of a table (rows 2, 4, 5 and 17): a quick pass that tells mappings in order, an exact one that finds the place, and
-// a look at the words behind them.
+// The check of a table (rows 2, 4, 5 and 17): a quick pass that tells mappings in order, an exact one that finds the
+// place, and a look at the words behind them.
 use model::Mapping;
 use model::Refusal;
 use model::Space;

@@ -1,5 +1,6 @@
--- The edges of the rules, computed: the request check at 31 inputs around them, one listing (Exactly covers them all);
--- the longest table, whose 16,384 words no claim writes out, and one of a mapping more.
+-- The edges of the rules, computed: the request check at 31 inputs around them, one listing, and words behind the last
+-- mapping (Exactly covers them all); the longest table, whose 16,384 words no claim writes out, and one of a mapping
+-- more.
 -- Assumes nothing.
 use mathlib.Core.Path.{_≡_, refl}
 use mathlib.Core.Bool.{Bool, true, _&&_}
@@ -7,7 +8,7 @@ use mathlib.Core.List.{List, [], _∷_, _++_}
 use Prim.Native.Nat.{ℕ, _-_, _^_}
 use lib.Dec.{T, eqb, eqb→eq}
 use lib.ListN.{replicate}
-use Rattle.model.specs.Prelude.{Space, Nothing, Grant}
+use Rattle.model.specs.Prelude.{Space, Nothing, Object, Seen, Grant}
 use Rattle.model.specs.Rows.{Reply, refused, answered, decide}
 use Rattle.model.specs.Rules.{byNumbers, formRows, requestRows}
 use Rattle.model.specs.Calls.{spaceOf, checkRows, checkRequest, littleEndian, requestOf, recordRows, bytesOf, recordOf, numbers, bindRows, bind, lookup}
@@ -104,6 +105,31 @@ each-right (b ∷ bs) t = let h = and-both (right b) (allRight bs) t in (eqb→e
 boundaries-right : Each Right boundaries
 unfolding allRight right decide formRows requestRows littleEndian requestOf recordRows bytesOf recordOf checkRows checkRequest boundaries
 boundaries-right = each-right boundaries tt
+
+-- ── words behind the last mapping ──
+
+-- a mapping of one page of object o, the words a and b first and last behind it, and a count
+abbrev behind : ℕ → ℕ → ℕ → ℕ → Table
+behind o a b n = record { words = 0 ∷ 4096 ∷ o ∷ 0 ∷ a ∷ 0 ∷ 0 ∷ b ∷ []; count = n }
+
+-- a table, and what a look-up at 0 answers
+unfoldable counted : List (Table × Reply Seen)
+counted =
+    -- zeros; the first word, the last word, each alone
+    (behind 7 0 0 1, answered (record { shown = Object 7 0; bytes = 4096 })) ∷ (behind 7 1 0 1, refused 17 0) ∷ (behind 7 0 1 1, refused 17 0)
+    -- a count too low, and too high by one and by two; 5 stands above 17
+    ∷ (behind 7 0 0 0, refused 17 0) ∷ (behind 7 0 0 2, refused 5 1) ∷ (behind 7 0 0 3, refused 4 0) ∷ (behind 0 1 1 1, refused 5 0)
+    ∷ []
+
+counted-right : Each (λ (a : Table × Reply Seen). lookup plain (a .0) 0 ≡ a .1) counted
+unfolding counted lookup tableRows decide badPlace mappingsIn translate runEnd
+counted-right = (refl, (refl, (refl, (refl, (refl, (refl, (refl, tt)))))))
+
+-- 17 stands above 6, and changes nothing
+stale-bound : bind plain (behind 7 0 1 1) (replicate 42 9) (numbers 0 1 1 0 1)
+    ≡ record { answer = refused 17 0; table = behind 7 0 1 1 .words; operations = replicate 42 9 }
+unfolding bind bindRows formRows tableRows decide badPlace mappingsIn
+stale-bound = refl
 
 -- ── the longest table, and one mapping more ──
 

@@ -8,7 +8,6 @@ use native.Mathlib.Omega.{arith}
 use lib.ListN.{length, getD, take, drop, replicate, take-append-drop}
 use lib.Seq.{getD-drop}
 use Rattle.model.specs.Prelude.{Space}
-use Rattle.model.specs.Rows.{Row}
 use Rattle.model.specs.Table.{Table, mappings, mappingsIn, wordsOf, written, tableRows}
 use Rattle.model.specs.Cut.{see}
 use Rattle.model.specs.Calls.{lookup}

@@ -24,18 +24,18 @@ stale-zeros t = (
   λ z. rw z (zeros-tests (length (t .words) - 4 * t .count)),
 )
 
--- place by place: the words from place n on are zero
-abbrev ZeroFrom : ℕ → List ℕ → Type 0
-ZeroFrom n ws = (i : ℕ) → n ≤ i → i < length ws → getD ws i 0 ≡ 0
+-- place by place, from place n on
+abbrev ZeroPlaces : ℕ → List ℕ → Type 0
+ZeroPlaces n ws = (i : ℕ) → n ≤ i → i < length ws → getD ws i 0 ≡ 0
 
-tests-places : (n : ℕ) (ws : List ℕ) → Alls (zeroTests (drop n ws)) → ZeroFrom n ws
+tests-places : (n : ℕ) (ws : List ℕ) → Alls (zeroTests (drop n ws)) → ZeroPlaces n ws
 tests-places n [] h i l k = refl
 tests-places zero (x ∷ xs) h zero l k = eqb→eq x 0 (h .0)
 tests-places zero (x ∷ xs) h (suc i) l k = tests-places zero xs (h .1) i (omega tests) (omega tests)
 tests-places (suc n) (x ∷ xs) h zero l k = absurd (omega tests)
 tests-places (suc n) (x ∷ xs) h (suc i) l k = tests-places n xs h i (omega tests) (omega tests)
 
-places-tests : (n : ℕ) (ws : List ℕ) → ZeroFrom n ws → Alls (zeroTests (drop n ws))
+places-tests : (n : ℕ) (ws : List ℕ) → ZeroPlaces n ws → Alls (zeroTests (drop n ws))
 places-tests zero [] z = tt
 places-tests (suc n) [] z = tt
 places-tests zero (x ∷ xs) z =

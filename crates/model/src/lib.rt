@@ -34,8 +34,8 @@ pub struct Request {
     pub size: u64,
 }
 
-// The refusals of document 01's table, in the order of their numbers 1 to 14, and of document 02, 17. A bad mapping has its
-// place.
+// The refusals of document 01's table, in the order of their numbers 1 to 14, and document 02's 17. A bad mapping has
+// its place.
 pub enum Refusal {
     BadSpace,
     BadTableLength,
