@@ -132,7 +132,7 @@ fn draw_legend(svg: &mut Svg, y: f64) {
 
 /// The picture in words: what stands at the right of each panel.
 fn about(panels: &[Panel]) -> String {
-    let mut told = "Nanoseconds a call at 4,096 mappings.".to_string();
+    let mut told = "Nanoseconds a call where there is room for 4,096 mappings.".to_string();
     for panel in panels {
         let [library, plain, tree] = panel.curves.map(|curve| curve[SIZES.len() - 1]);
         let what = panel.what;

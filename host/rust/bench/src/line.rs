@@ -9,13 +9,16 @@ use waylluqen_model::{Space, PAGE};
 /// The room of the tables that are timed.
 pub const SIZES: [usize; 6] = [16, 64, 256, 512, 1024, 4096];
 
+/// The mappings of a small table, which has room for as many or for more.
+const SMALL: usize = 16;
+
 /// How many look-ups a line has: fewer in a large table, where one goes through so many mappings
 /// that 64 of them would take longer than a batch should.
-fn look_ups(room: usize) -> usize {
-    (65_536 / room).min(64)
+fn look_ups(count: usize) -> usize {
+    (65_536 / count).min(64)
 }
 
-#[derive(Clone, Copy)]
+#[derive(Clone, Copy, Debug, PartialEq)]
 pub enum Call {
     Bind(Request),
     Lookup(u64),
@@ -105,18 +108,18 @@ fn line(what: &'static str, room: usize, count: usize, place: usize, change: Cha
     Line::new(what, room, table(space, &mappings, room), calls)
 }
 
-/// Addresses in mappings all over the table.
-fn look_up(room: usize) -> Line {
-    let (space, mappings) = space_and_mappings(room);
-    let mut random = Random::new(room as u64);
+/// Addresses in mappings all over the table, of which it has so many.
+fn look_up(what: &'static str, room: usize, count: usize) -> Line {
+    let (space, mappings) = space_and_mappings(count);
+    let mut random = Random::new(count as u64);
     let mut address = || {
-        let [address, size, ..] = mappings[random.below(room as u64) as usize];
+        let [address, size, ..] = mappings[random.below(count as u64) as usize];
         address + random.below(size)
     };
-    let calls = (0..look_ups(room))
+    let calls = (0..look_ups(count))
         .map(|_| Call::Lookup(address()))
         .collect();
-    Line::new("look-up", room, table(space, &mappings, room), calls)
+    Line::new(what, room, table(space, &mappings, room), calls)
 }
 
 /// A page mapped into an empty table and unmapped again: nearly all that such a call writes are the
@@ -131,9 +134,14 @@ fn empty(room: usize) -> Line {
     Line::new("map into an empty table", room, table, calls)
 }
 
-/// The lines of a table with so much room. A mapping of three pages is at every third place.
-fn lines_of(room: usize) -> [Line; 6] {
-    let middle = room / 6 * 3 + 2;
+/// The place of a mapping of three pages, which is at every third one, in the middle of so many.
+fn middle_of(count: usize) -> usize {
+    count / 6 * 3 + 2
+}
+
+/// The lines of a table with so much room.
+fn lines_of(room: usize) -> [Line; 8] {
+    let middle = middle_of(room);
     let replace: Change = |[address, size, ..]| Request::map(address, size, OTHER_OBJECT, 0);
     let split: Change = |[address, ..]| Request::map(address + PAGE, PAGE, OTHER_OBJECT, 0);
     let unmap: Change = |[address, size, ..]| Request::unmap(address, size);
@@ -143,7 +151,9 @@ fn lines_of(room: usize) -> [Line; 6] {
         line("the same at the front", room, room - 2, 2, split),
         line("unmap and map", room, room, middle, unmap),
         empty(room),
-        look_up(room),
+        line("map over one of 16", room, SMALL, middle_of(SMALL), replace),
+        look_up("look-up", room, room),
+        look_up("look-up among 16", room, SMALL),
     ]
 }
 
@@ -154,4 +164,20 @@ pub fn lines() -> Vec<Line> {
     let order = lines_of(SIZES[0]).map(|line| line.what);
     lines.sort_by_key(|line| order.iter().position(|&what| what == line.what));
     lines
+}
+
+#[test]
+fn a_small_table_is_the_same_in_any_room() {
+    let [over, .., look_up, _] = lines_of(SMALL);
+    for room in SIZES {
+        let [.., over_small, _, look_up_small] = lines_of(room);
+        for (small, full) in [(over_small, &over), (look_up_small, &look_up)] {
+            let words = small.table.words;
+            assert_eq!((words.len(), small.table.count), (room * MAPPING_WORDS, 16));
+            let (mappings, behind) = words.split_at(full.table.words.len());
+            assert!(mappings == full.table.words && behind.iter().all(|&word| word == 0));
+            assert_eq!(small.table.space, full.table.space);
+            assert_eq!(small.calls, full.calls);
+        }
+    }
 }

@@ -12,6 +12,9 @@ pub const TREE: usize = PLAIN.len() + 1;
 /// From so many mappings on we hold ourselves to the quickest plain version.
 const HELD_FROM: usize = 64;
 
+/// A table in which at most so many mappings are missing counts as full: a request needs the room.
+const FREE: usize = 2;
+
 fn head(columns: &[&str]) {
     println!("| {} |", columns.join(" | "));
     println!("|{}", "---|".repeat(columns.len()));
@@ -56,10 +59,15 @@ fn print_summary(line: &Line, times: &Times, counts: Option<&Vec<f64>>, names: &
     println!();
 }
 
-/// The highest of the ratios that we hold ourselves to, with its line.
-fn highest(lines: &[Line], ratios: &[f64]) -> (f64, String) {
+fn is_full(line: &Line) -> bool {
+    line.table.count as usize + FREE >= line.room
+}
+
+/// The highest ratio of the full tables, which we hold ourselves to, or of the others, with its
+/// line.
+fn highest(lines: &[Line], ratios: &[f64], full: bool) -> (f64, String) {
     let held = lines.iter().zip(ratios);
-    let held = held.filter(|(line, _)| line.room >= HELD_FROM && line.table.count > 0);
+    let held = held.filter(|(line, _)| line.room >= HELD_FROM && is_full(line) == full);
     let highest = held.max_by(|(_, one), (_, other)| one.total_cmp(other));
     let (line, ratio) = highest.expect("there are such lines");
     (*ratio, line.name())
@@ -67,14 +75,21 @@ fn highest(lines: &[Line], ratios: &[f64]) -> (f64, String) {
 
 /// How near the library is to the quickest plain version where it is furthest from it.
 fn verdict(lines: &[Line], by_time: &[f64], by_instructions: Option<&[f64]>) -> String {
-    let most = |ratios: &[f64], what: &str| {
-        let (ratio, line) = highest(lines, ratios);
-        format!("{ratio:.2} by {what} ({line})")
+    let most = |full: bool| {
+        let of = |ratios: &[f64], what: &str| {
+            let (ratio, line) = highest(lines, ratios, full);
+            format!("{ratio:.2} by {what} ({line})")
+        };
+        let mut most_of_each = vec![of(by_time, "time")];
+        most_of_each.extend(by_instructions.map(|ratios| of(ratios, "instructions")));
+        most_of_each.join(" and ")
     };
-    let mut most_of_each = vec![most(by_time, "time")];
-    most_of_each.extend(by_instructions.map(|ratios| most(ratios, "instructions")));
-    let most = most_of_each.join(" and ");
-    format!("From {HELD_FROM} mappings on, of the quickest plain version at most {most}.")
+    format!(
+        "From {HELD_FROM} mappings on, of the quickest plain version at most {}; \
+         with few or none in so much room {}.",
+        most(true),
+        most(false)
+    )
 }
 
 fn print_verdict(lines: &[Line], times: &[Times], counts: Option<&[Vec<f64>]>) {
@@ -190,13 +205,16 @@ mod tests {
     use crate::line::lines;
 
     /// A ratio for each line, all lower than the one that a line has by its name.
-    fn ratios(lines: &[Line], name: &str, ratio: f64) -> Vec<f64> {
-        let of = |line: &Line| match line.room {
-            // Not among those that we hold ourselves to.
-            16 => 9.0,
-            _ if line.table.count == 0 => 9.0,
-            _ if line.name() == name => ratio,
-            _ => ratio - 0.001,
+    fn ratios(lines: &[Line], full: (&str, f64), other: (&str, f64)) -> Vec<f64> {
+        let of = |line: &Line| {
+            let few = [0, 16].contains(&line.table.count);
+            let (name, ratio) = if few { other } else { full };
+            match line.room {
+                // Not among those that we hold ourselves to.
+                16 => 9.0,
+                _ if line.name() == name => ratio,
+                _ => ratio - 0.001,
+            }
         };
         lines.iter().map(of).collect()
     }
@@ -204,17 +222,22 @@ mod tests {
     #[test]
     fn the_verdict_is_the_highest_ratio_from_64_mappings_on() {
         let lines = lines();
-        let times = ratios(&lines, "the same at the front, 4096", 0.886);
-        let counts = ratios(&lines, "look-up, 64", 1.034);
+        let empty = ("map into an empty table, 256", 2.212);
+        let times = ratios(&lines, ("the same at the front, 4096", 0.886), empty);
+        let small = ("look-up among 16, 64", 0.518);
+        let counts = ratios(&lines, ("look-up, 64", 1.034), small);
         assert_eq!(
             verdict(&lines, &times, Some(&counts)),
             "From 64 mappings on, of the quickest plain version at most 0.89 by time \
-             (the same at the front, 4096) and 1.03 by instructions (look-up, 64)."
+             (the same at the front, 4096) and 1.03 by instructions (look-up, 64); \
+             with few or none in so much room 2.21 by time (map into an empty table, 256) \
+             and 0.52 by instructions (look-up among 16, 64)."
         );
         assert_eq!(
             verdict(&lines, &times, None),
             "From 64 mappings on, of the quickest plain version at most 0.89 by time \
-             (the same at the front, 4096)."
+             (the same at the front, 4096); \
+             with few or none in so much room 2.21 by time (map into an empty table, 256)."
         );
     }
 }

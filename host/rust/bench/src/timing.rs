@@ -101,7 +101,7 @@ impl<'a> Timed<'a> {
     /// Nanoseconds a call of one contender, in a batch.
     fn time(&mut self, contender: usize) -> f64 {
         let manager = &mut *self.managers[contender];
-        // Once before: since its last batch all the other tables were used, some 7 MB, and this one
+        // Once before: since its last batch all the other tables were used, some 9 MB, and this one
         // went to a cache further away. At 4,096 mappings a call would take half as long again.
         make_calls(manager, self.line, &mut self.list);
         let start = Instant::now();

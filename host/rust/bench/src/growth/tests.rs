@@ -4,13 +4,15 @@ use super::*;
 use waylluqen_svg::read::{elements, Element};
 use waylluqen_svg::room::{disturbs, overlap, points, room};
 
-const WHAT: [&str; 6] = [
+const WHAT: [&str; 8] = [
     "map over one mapping",
     "map into one and undo",
     "the same at the front",
     "unmap and map",
     "map into an empty table",
+    "map over one of 16",
     "look-up",
+    "look-up among 16",
 ];
 
 /// Panels whose times at each size are those of a curve, times these for the three.
@@ -21,12 +23,22 @@ fn panels_of(curve: Curve, times: [f64; 3]) -> Vec<Panel> {
 
 const USUAL: Curve = [41.0, 102.0, 260.0, 467.0, 1_220.0, 4_710.0];
 
+/// Panels of which every other one has level curves, as those of small tables can be.
+fn mixed() -> Vec<Panel> {
+    let growing = panels_of(USUAL, [1.0, 1.3, 2.9]);
+    let level = panels_of([40.0; SIZES.len()], [1.0, 0.7, 1.6]);
+    let pairs = growing.into_iter().zip(level).enumerate();
+    let one = |(place, (growing, level))| if place % 2 == 0 { growing } else { level };
+    pairs.map(one).collect()
+}
+
 /// Usual figures, and others: level curves, all the same, very low, very high.
 fn examples() -> Vec<Vec<Panel>> {
     vec![
         panels_of(USUAL, [1.0, 1.3, 2.9]),
         panels_of(USUAL, [1.0, 1.0, 1.0]),
         panels_of(USUAL, [1.0, 0.6, 0.03]),
+        mixed(),
         panels_of([1.0; SIZES.len()], [1.0, 1.0, 1.0]),
         panels_of([2e5; SIZES.len()], [1.0, 0.5, 2.0]),
         panels_of([1.0, 1.0, 1.0, 1.0, 1.0, 9e5], [1.0, 2.0, 3.0]),
@@ -61,6 +73,25 @@ fn nothing_is_outside_and_nothing_in_the_way_of_a_text() {
                 _ => disturbs(one, place),
             };
             assert!(!all.iter().any(is_in_the_way), "'{}'", text.text);
+        }
+    }
+}
+
+#[test]
+fn plots_are_apart_and_hold_their_curves() {
+    for panels in examples() {
+        let all = elements(&draw(&panels));
+        let is_frame = |one: &&Element| one.name == "rect" && one.get("fill") == Some("none");
+        let frames: Vec<_> = all.iter().filter(is_frame).filter_map(room).collect();
+        assert_eq!(frames.len(), WHAT.len());
+        for (at, frame) in frames.iter().enumerate() {
+            assert!(frames[..at].iter().all(|other| !overlap(*other, *frame)));
+        }
+        for curves in STYLES.map(|style| drawn(&all, style.colour)) {
+            for (curve, [left, top, right, bottom]) in curves.iter().zip(&frames) {
+                let inside = |(x, y): &(f64, f64)| left < x && x < right && top <= y && y <= bottom;
+                assert!(curve.iter().all(inside));
+            }
         }
     }
 }
