@@ -15,6 +15,7 @@ pub const NO_ROOM: u32 = 11;
 pub const BAD_RECORD_LENGTH: u32 = 12;
 pub const BAD_OP: u32 = 13;
 pub const BAD_FLAGS: u32 = 14;
+pub const STALE_WORDS: u32 = 17;
 
 /// A refusal: its number, and the place of a mapping that is refused, else 0.
 #[derive(Clone, Copy, Debug, PartialEq, Eq)]

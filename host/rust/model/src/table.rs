@@ -43,6 +43,11 @@ pub fn bad_place(space: &Space, table: &[u64], count: usize) -> Option<usize> {
     (0..count).find(|&place| !place_holds(space, table, place))
 }
 
+/// Whether a word behind the first `count` mappings is not zero.
+pub fn has_stale_word(table: &[u64], count: usize) -> bool {
+    table[count * MAPPING_WORDS..].iter().any(|&word| word != 0)
+}
+
 /// The first reason not to look at a table; else the number of its mappings. A call that writes
 /// operations was lent words for them.
 pub fn check_table(
@@ -65,11 +70,14 @@ pub fn check_table(
         return Err(Refused::of(answer::BAD_COUNT));
     }
     let count = count as usize;
-    match bad_place(space, table, count) {
-        None => Ok(count),
-        Some(place) => Err(Refused {
+    if let Some(place) = bad_place(space, table, count) {
+        return Err(Refused {
             number: answer::BAD_MAPPING,
             place: place as u64,
-        }),
+        });
     }
+    if has_stale_word(table, count) {
+        return Err(Refused::of(answer::STALE_WORDS));
+    }
+    Ok(count)
 }

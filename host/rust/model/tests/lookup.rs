@@ -229,16 +229,24 @@ fn counts() {
 #[test]
 fn words_behind_the_count() {
     let words = FIVE.concat();
-    assert_eq!(lookup(&COMMON, &words, 4, 0x1f_f000), nothing(0x1000));
-    // No mapping that stands behind the count ends a gap.
-    assert_eq!(lookup(&COMMON, &words, 4, 0x18_1000), nothing(0x7_f000));
-    assert_eq!(lookup(&COMMON, &words, 2, 0x10_3000), nothing(0xf_d000));
-    assert_eq!(lookup(&COMMON, &words, 0, 0x10_0000), nothing(0x10_0000));
+    let cut = |count: usize| {
+        let mut cut = words.clone();
+        cut[count * 4..].fill(0);
+        cut
+    };
+    assert_eq!(lookup(&COMMON, &cut(4), 4, 0x1f_f000), nothing(0x1000));
+    // No mapping of zeros ends a gap.
+    assert_eq!(lookup(&COMMON, &cut(4), 4, 0x18_1000), nothing(0x7_f000));
+    assert_eq!(lookup(&COMMON, &cut(2), 2, 0x10_3000), nothing(0xf_d000));
+    assert_eq!(lookup(&COMMON, &cut(0), 0, 0x10_0000), nothing(0x10_0000));
+    for count in 0..5 {
+        let looked = lookup(&COMMON, &words, count, 0x10_0000);
+        assert_eq!(looked, refused(17), "{count}");
+    }
     let mut damaged = words;
     damaged[4..].fill(u64::MAX);
-    assert_eq!(lookup(&COMMON, &damaged, 0, 0x10_0000), nothing(0x10_0000));
-    let first = shows(7, 0x3000, 0x2000);
-    assert_eq!(lookup(&COMMON, &damaged, 1, 0x10_0000), first);
+    assert_eq!(lookup(&COMMON, &damaged, 0, 0x10_0000), refused(17));
+    assert_eq!(lookup(&COMMON, &damaged, 1, 0x10_0000), refused(17));
     assert_eq!(lookup(&COMMON, &damaged, 2, 0x10_0000), bad_mapping(1));
 }
 
@@ -393,7 +401,9 @@ fn a_full_table() {
 fn an_empty_table() {
     let all = nothing(0x10_0000);
     assert_eq!(lookup(&COMMON, &[0; 4], 0, 0x10_0000), all);
-    assert_eq!(lookup(&COMMON, &[u64::MAX; 16_384], 0, 0x10_0000), all);
+    assert_eq!(lookup(&COMMON, &[0; 16_384], 0, 0x10_0000), all);
+    let full = [u64::MAX; 16_384];
+    assert_eq!(lookup(&COMMON, &full, 0, 0x10_0000), refused(17));
     assert_eq!(lookup(&COMMON, &[0; 4], 0, 0x1f_ffff), nothing(1));
     assert_eq!(lookup(&COMMON, &[0; 4], 0, 0x20_0000), OUTSIDE);
     assert_eq!(lookup(&COMMON, &[0; 4], 1, 0x10_0000), bad_mapping(0));
