@@ -6,7 +6,9 @@ use crate::manager::{contenders, lent, Bound, Contender, Grant, Looked, TREE};
 use waylluqen::Shown;
 use waylluqen_compare::library::{self, change_table, write_operations};
 use waylluqen_compare::near::{disturb, near_record, widen};
-use waylluqen_compare::tables::{any_address, good_table, some_operation_words, Good, Table};
+use waylluqen_compare::tables::{
+    any_address, good_table, make_stale, some_operation_words, Good, Table,
+};
 use waylluqen_model::random::Random;
 use waylluqen_model::{self as model, MAPPING_WORDS, MOST_MAPPINGS};
 
@@ -84,25 +86,18 @@ fn compare_lookup(table: &Table, address: u64) -> Looked {
     expected
 }
 
-/// The words of the mappings, and behind them room for more: mostly for few, where any words are,
-/// zeros, or zeros but for one word.
-fn some_words(random: &mut Random, good: &Good) -> Vec<u64> {
+/// The table of the mappings, with room for more: mostly for few, and now and then with stale words.
+fn some_table(random: &mut Random, good: &Good) -> Table {
     let room = MOST_MAPPINGS - good.mappings.len();
     let spare = match random.below(8) {
         0 => random.up_to(room as u64),
         _ => random.below(3),
     };
-    let mut words = good.words(random, room.min(spare as usize));
-    let behind = &mut words[good.mappings.len() * MAPPING_WORDS..];
+    let mut table = good.table(room.min(spare as usize));
     if random.once_in(4) {
-        return words;
+        make_stale(random, &mut table);
     }
-    behind.fill(0);
-    if random.once_in(3) && !behind.is_empty() {
-        let place = random.below(behind.len() as u64) as usize;
-        behind[place] = random.next_u64();
-    }
-    words
+    table
 }
 
 /// A random table, most of them good, with a request near its mappings and addresses in it.
@@ -110,11 +105,7 @@ fn compare_random(random: &mut Random) {
     // Few are large: small ones have as many edges, and are quickly compared.
     let largest = random.pick(&[8, 40, 40, 512, MOST_MAPPINGS as u64]);
     let good = good_table(random, largest);
-    let mut table = Table {
-        space: good.space,
-        words: some_words(random, &good),
-        count: good.mappings.len() as u64,
-    };
+    let mut table = some_table(random, &good);
     let mut record = near_record(random, &good);
     disturb(random, &good, &mut table, &mut record);
     let mut request = record.request();

@@ -44,14 +44,19 @@ impl Caller {
         self.table.put(&mut self.random, words);
     }
 
+    /// Changes a word of the table that is lent.
+    pub fn set_word(&mut self, place: usize, word: u64) {
+        self.table.words_mut()[place] = word;
+    }
+
     /// Lends these words for the operations of the next call.
     pub fn lend_operations(&mut self, words: &[u64]) {
         self.operations.put(&mut self.random, words);
     }
 
-    /// Puts other words around the table and behind its first `count` mappings; see [`Lent::stir`].
-    pub fn stir(&mut self, count: u64, address: u64) {
-        self.table.stir(&mut self.random, count, address);
+    /// Puts other words around the table; see [`Lent::stir`].
+    pub fn stir(&mut self, address: u64) {
+        self.table.stir(&mut self.random, address);
     }
 
     /// The table as the last call left it.

@@ -9,6 +9,12 @@ use waylluqen_model::{Grant, Mapping, Operation, Refused, Request, Seen, Shown, 
 pub type Bound = Result<Grant, Refused>;
 pub type Looked = Result<Seen, Refused>;
 
+/// The numbers of all refusals.
+pub const NUMBERS: [u32; 15] = [1, 2, 3, 4, 5, 6, 7, 8, 9, 10, 11, 12, 13, 14, 17];
+
+/// Room for a count of each number up to the highest, and of what is not refused.
+pub type ByNumber = [u64; 18];
+
 pub fn space(space: &Space) -> waylluqen::Space {
     waylluqen::Space {
         start: space.start,
@@ -50,6 +56,7 @@ pub fn refusal(refused: Refused) -> Refusal {
         answer::BAD_RECORD_LENGTH => Refusal::BadRecordLength,
         answer::BAD_OP => Refusal::BadOp,
         answer::BAD_FLAGS => Refusal::BadFlags,
+        answer::STALE_WORDS => Refusal::StaleWords,
         number => unreachable!("{number} is no refusal"),
     }
 }

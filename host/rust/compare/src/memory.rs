@@ -54,9 +54,9 @@ impl Lent {
         &mut self.memory[self.start..self.start + self.words]
     }
 
-    /// Other words around a table and behind its first `count` mappings: any, zeros, or a mapping
-    /// that shows the address or starts at the page behind it.
-    pub fn stir(&mut self, random: &mut Random, count: u64, address: u64) {
+    /// Other words around a table: any, zeros, or a mapping that shows the address or starts at the
+    /// page behind it.
+    pub fn stir(&mut self, random: &mut Random, address: u64) {
         let first = address / PAGE * PAGE;
         let choice = random.below(4);
         let mut other = |at: usize| match choice {
@@ -67,13 +67,8 @@ impl Lent {
         };
         let start = self.start;
         let end = start + self.words;
-        let used = count.saturating_mul(MAPPING_WORDS as u64);
-        let behind = start + used.min(self.words as u64) as usize;
         for at in start - BESIDE..start {
             self.memory[at] = other(at + BESIDE - start);
-        }
-        for at in behind..end.min(behind + BESIDE) {
-            self.memory[at] = other(at - behind);
         }
         for at in end..end + BESIDE {
             self.memory[at] = other(at - end);

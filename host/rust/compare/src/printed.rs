@@ -23,7 +23,7 @@ pub const LINES: [&str; 14] = [
     "at none 0",
 ];
 
-/// Every refusal that a script can have, but for 11, which takes a full table.
+/// Every refusal that a script can have, but for [`NO_ROOM`].
 pub const REFUSALS: [&str; 8] = [
     "refused 1",
     "refused 6",
@@ -34,6 +34,9 @@ pub const REFUSALS: [&str; 8] = [
     "refused 13",
     "refused 14",
 ];
+
+/// The one that takes a full table.
+pub const NO_ROOM: &str = "refused 11";
 
 /// The ends that a script can have: none of its own, a wrong mark, a cut mark, a cut record.
 pub const ENDS: [&[u8]; 4] = [b"", b"XY", b"S", b"RQ\0\0\0\0\0"];
@@ -63,6 +66,13 @@ fn kind(line: &str) -> &str {
     }
 }
 
+/// Whether a script can have a line of this kind. Its table is one that only requests write, and
+/// its records have their length: it is not refused for either.
+fn can_come(kind: &str) -> bool {
+    let is_refusal = kind.starts_with("refused");
+    !is_refusal || kind == NO_ROOM || REFUSALS.contains(&kind)
+}
+
 impl Tally {
     /// A test's tally, and the randomness of its scripts.
     pub fn new(test: &'static str, seed: u64) -> (Tally, Random) {
@@ -87,6 +97,7 @@ impl Tally {
         let mut last = "";
         for line in printed.lines() {
             let kind = kind(line);
+            assert!(can_come(kind), "`{kind}` came");
             self.count(kind);
             match (last, kind) {
                 ("lower", "upper") => self.count("lower and upper"),

@@ -31,6 +31,23 @@ pub struct Table {
     pub count: u64,
 }
 
+impl Table {
+    /// The words behind as many mappings as are counted: none where the count is too high.
+    pub fn behind(&mut self) -> &mut [u64] {
+        let used = self.count.saturating_mul(MAPPING_WORDS as u64);
+        let used = used.min(self.words.len() as u64);
+        &mut self.words[used as usize..]
+    }
+
+    /// Another count, mostly with zeros behind so many mappings; else what was there is stale.
+    pub fn recount(&mut self, random: &mut Random, count: u64) {
+        self.count = count;
+        if !random.once_in(8) {
+            self.behind().fill(0);
+        }
+    }
+}
+
 /// A space that keeps its rules, and mappings in it that keep theirs.
 #[derive(Clone)]
 pub struct Good {
@@ -39,18 +56,18 @@ pub struct Good {
 }
 
 impl Good {
-    /// The words of the mappings and, behind them, `spare` more mappings of any words.
-    pub fn words(&self, random: &mut Random, spare: usize) -> Vec<u64> {
+    /// The words of the mappings and, behind them, zeros for `spare` more.
+    pub fn words(&self, spare: usize) -> Vec<u64> {
         let mut words: Vec<u64> = self.mappings.iter().flat_map(Mapping::words).collect();
-        words.extend((0..spare * MAPPING_WORDS).map(|_| random.next_u64()));
+        words.resize(words.len() + spare * MAPPING_WORDS, 0);
         words
     }
 
     /// The table of these words.
-    pub fn table(&self, random: &mut Random, spare: usize) -> Table {
+    pub fn table(&self, spare: usize) -> Table {
         Table {
             space: self.space,
-            words: self.words(random, spare),
+            words: self.words(spare),
             count: self.mappings.len() as u64,
         }
     }
@@ -333,6 +350,44 @@ pub fn damage(random: &mut Random, good: &Good, words: &mut [u64]) {
     );
 }
 
+/// A word that is not zero: often with one bit, or what a mapping has.
+pub fn stale_word(random: &mut Random) -> u64 {
+    match random.below(6) {
+        0 => 1,
+        1 => 1 << 63,
+        2 => 1 << random.below(64),
+        3 => (1 + random.below(64)) * PAGE,
+        _ => 1 + random.up_to(u64::MAX - 1),
+    }
+}
+
+/// Puts words that are not zero behind the table's mappings, if there is room: one, often the first
+/// or the last, or two, or a mapping, or any everywhere.
+pub fn make_stale(random: &mut Random, table: &mut Table) {
+    let behind = table.behind();
+    let Some(last) = behind.len().checked_sub(1) else {
+        return;
+    };
+    let any = random.below(behind.len() as u64) as usize;
+    match random.below(8) {
+        0..=1 => behind[0] = stale_word(random),
+        2..=3 => behind[last] = stale_word(random),
+        4 => behind[any] = stale_word(random),
+        5 => {
+            behind[any] = stale_word(random);
+            behind[last - any] = 0u64.wrapping_sub(behind[any]);
+        }
+        6 => {
+            let mapping = [any as u64 * PAGE, PAGE, 7, 0];
+            behind
+                .iter_mut()
+                .zip(mapping)
+                .for_each(|(word, new)| *word = new);
+        }
+        _ => behind.fill_with(|| random.next_u64()),
+    }
+}
+
 /// A number of operation words: mostly the least that will do, else beside it or any.
 pub fn some_operation_words(random: &mut Random, table_words: usize) -> usize {
     let least = least_operation_words(table_words / MAPPING_WORDS);
@@ -345,11 +400,11 @@ pub fn some_operation_words(random: &mut Random, table_words: usize) -> usize {
     }
 }
 
-/// Changes something about the table: one of its words or mappings, the space, the length, the
-/// count.
+/// Changes something about the table: one of its words or mappings, the words behind them, the
+/// space, the length, the count.
 pub fn disturb_table(random: &mut Random, good: &Good, table: &mut Table) {
     let mappings = good.mappings.len();
-    match random.below(8) {
+    match random.below(9) {
         0..=2 if table.words.len() >= mappings * MAPPING_WORDS => {
             damage(random, good, &mut table.words);
         }
@@ -358,17 +413,23 @@ pub fn disturb_table(random: &mut Random, good: &Good, table: &mut Table) {
             // All is reserved; the mappings, if there are any, are at fault.
             table.space.reserved_start = table.space.start;
             table.space.reserved_size = table.space.size;
-            table.count *= random.below(2);
+            let count = table.count * random.below(2);
+            table.recount(random, count);
         }
         5 => {
             let length = other_length(random, table.words.len());
-            table.words.resize_with(length, || random.next_u64());
+            table.words.resize(length, 0);
         }
-        _ => table.count = other_count(random, mappings as u64, table.words.len() as u64),
+        6 => make_stale(random, table),
+        _ => {
+            let count = other_count(random, mappings as u64, table.words.len() as u64);
+            table.recount(random, count);
+        }
     }
 }
 
-/// Any space, and words of which many are multiples of a page or at an edge.
+/// Any space, and words of which many are multiples of a page or at an edge; mostly with zeros
+/// behind as many mappings as are counted.
 pub fn any_table(random: &mut Random) -> Table {
     let space = match random.below(8) {
         0 => space_of([0; 4].map(|_| random.next_u64())),
@@ -391,11 +452,13 @@ pub fn any_table(random: &mut Random) -> Table {
     };
     let words = (0..length).map(word).collect();
     let count = other_count(random, 1, length as u64);
-    Table {
+    let mut table = Table {
         space,
         words,
         count,
-    }
+    };
+    table.recount(random, count);
+    table
 }
 
 /// The bytes at both ends of `[start, start + size)`, and those beside them; any numbers.

@@ -1,7 +1,7 @@
 //! Compares the library's map and unmap to the model's, call by call.
 
 use waylluqen_compare::calls::{Asking, Caller};
-use waylluqen_compare::library::Bound;
+use waylluqen_compare::library::{Bound, ByNumber, NUMBERS};
 use waylluqen_compare::marks::Marks;
 use waylluqen_compare::near::{disturb, near_record, widen};
 use waylluqen_compare::numbers::{space_of, LIMIT};
@@ -24,8 +24,7 @@ struct Tally {
     calls: u64,
     /// Grants of maps and of unmaps.
     granted: [u64; 2],
-    /// By number.
-    refused: [u64; 15],
+    refused: ByNumber,
     /// Grants that hit no mapping, one, two, more.
     hits: [u64; 4],
     /// Remaps with a lower rest alone, an upper rest alone, both.
@@ -68,7 +67,7 @@ impl Tally {
             caller: Caller::new(seed),
             calls: 0,
             granted: [0; 2],
-            refused: [0; 15],
+            refused: ByNumber::default(),
             hits: [0; 4],
             rests: [0; 3],
             both_ends: 0,
@@ -123,7 +122,8 @@ impl Tally {
 
     /// Every refusal, every kind of grant and every kind of cut came at least `least` times.
     fn assert_all(&self, least: u64) {
-        for (number, &times) in self.refused.iter().enumerate().skip(1) {
+        for number in NUMBERS {
+            let times = self.refused[number as usize];
             assert!(times >= least, "refusal {number} came only {times} times");
         }
         let kinds = [
@@ -199,13 +199,9 @@ fn good_tables_and_those_near_them() {
         let spare = random
             .pick(&[0, 0, 1, 2, 3])
             .min(MOST_MAPPINGS - good.mappings.len());
-        let words = good.words(&mut random, spare);
+        let whole = good.table(spare);
         for _ in 0..ROUNDS {
-            let mut table = Table {
-                space: good.space,
-                words: words.clone(),
-                count: good.mappings.len() as u64,
-            };
+            let mut table = whole.clone();
             let mut record = near_record(&mut random, &good);
             disturb(&mut random, &good, &mut table, &mut record);
             ask_both(&mut random, &mut tally, &table, &record);
@@ -227,7 +223,7 @@ fn any_words() {
     for _ in 0..INPUTS {
         let mut table = any_table(&mut random);
         if random.once_in(4) {
-            table.count = 0;
+            table.recount(&mut random, 0);
         }
         let space = match random.below(4) {
             0 => space_of([0, LIMIT, 0, 0]),
@@ -238,7 +234,7 @@ fn any_words() {
         ask_both(&mut random, &mut tally, &table, &record);
     }
     tally.print("any words");
-    for number in [1, 2, 3, 4, 5, 7, 8] {
+    for number in [1, 2, 3, 4, 5, 7, 8, 17] {
         let times = tally.refused[number];
         assert!(times >= 1000, "refusal {number} came only {times} times");
     }
@@ -250,11 +246,7 @@ fn any_words() {
 fn ask_edges(random: &mut Random, tally: &mut Tally, space: Space, [mappings, spare]: [usize; 2]) {
     let good = fill_space(random, space, mappings as u64);
     assert_eq!(good.mappings.len(), mappings);
-    let table = Table {
-        space,
-        words: good.words(random, spare),
-        count: mappings as u64,
-    };
+    let table = good.table(spare);
     let ends = page_ends(&good);
     for (at, &from) in ends.iter().enumerate() {
         for &to in &ends[at..] {
@@ -332,59 +324,6 @@ fn ask_range(tally: &mut Tally, table: &Table, from: u64, to: u64) {
     }
 }
 
-/// Places of a run of words: those at its ends, and some between.
-fn places(words: usize) -> Vec<usize> {
-    let at_start = 0..words.min(70);
-    let at_end = words.saturating_sub(70)..words;
-    let mut all: Vec<usize> = at_start
-        .chain((0..words).step_by(61))
-        .chain(at_end)
-        .collect();
-    all.sort_unstable();
-    all.dedup();
-    all
-}
-
-/// A stale word anywhere behind the last mapping, or none, is zero after a grant: in tables with
-/// room for about 1,024 mappings more, where the library begins to look first, and in the longest.
-#[test]
-fn a_stale_word_far_behind() {
-    const MAPPINGS: usize = 3;
-    let mut random = Random::new(127);
-    let mut tally = Tally::new(128);
-    let space = plain_spaces()[0];
-    let good = fill_space(&mut random, space, MAPPINGS as u64);
-    let [first, .., last] = good.mappings[..] else {
-        panic!("{MAPPINGS} mappings");
-    };
-    let last_end = last.address + last.size;
-    for room in [1023, 1026, 1027, 1028, 1029, MOST_MAPPINGS] {
-        let mut table = Table {
-            space,
-            words: good.words(&mut random, 0),
-            count: MAPPINGS as u64,
-        };
-        table.words.resize(room * MAPPING_WORDS, 0);
-        let behind = MAPPINGS * MAPPING_WORDS;
-        for place in places((room - MAPPINGS) * MAPPING_WORDS) {
-            table.words[behind + place] = 1 << (place % 64);
-            // Inside one mapping, over one, over all of them: more, as many, fewer, or none left.
-            ask_range(&mut tally, &table, first.address, first.address + PAGE);
-            ask_range(
-                &mut tally,
-                &table,
-                first.address,
-                first.address + first.size,
-            );
-            ask_range(&mut tally, &table, first.address, last_end);
-            table.words[behind + place] = 0;
-        }
-        ask_range(&mut tally, &table, first.address, last_end);
-    }
-    tally.print("a stale word far behind");
-    assert!(tally.granted.iter().all(|&times| times >= 3_000));
-}
-
 #[test]
 fn words_that_are_no_operation() {
     let mapping = [PAGE, PAGE, 7, 0];
@@ -432,11 +371,7 @@ fn page_by_page() {
         let most = 1 + random.below(6);
         let good = fill_space(&mut random, space, most);
         let spare = random.below(3) as usize;
-        let table = Table {
-            space,
-            words: good.words(&mut random, spare),
-            count: good.mappings.len() as u64,
-        };
+        let table = good.table(spare);
         for _ in 0..ROUNDS {
             let request = near_record(&mut random, &good).request();
             checked += u64::from(check_pages(&mut tally, &table, &request));
@@ -490,7 +425,7 @@ fn every_table_of_six_pages() {
                 words: words.clone(),
                 count: mappings.len() as u64,
             };
-            table.words.resize(words.len() + spare * MAPPING_WORDS, 1);
+            table.words.resize(words.len() + spare * MAPPING_WORDS, 0);
             for from in 0..PAGES {
                 for to in from + 1..=PAGES {
                     for (op, object, offset) in [(MAP, 7, from + 1), (MAP, 9, 4), (UNMAP, 0, 0)] {

@@ -7,8 +7,9 @@ use waylluqen_compare::library;
 use waylluqen_compare::near::{near_record, widen};
 use waylluqen_compare::numbers::{disturb_space, other64};
 use waylluqen_compare::requests::disturb_record;
-use waylluqen_compare::tables::{any_table, damage, fill_space, good_table, small_spaces};
-use waylluqen_compare::tables::{Good, Table};
+use waylluqen_compare::tables::{
+    any_table, damage, fill_space, good_table, make_stale, small_spaces, Good, Table,
+};
 use waylluqen_model::bind::least_operation_words;
 use waylluqen_model::random::Random;
 use waylluqen_model::{Mapping, Record, Request, MAP, MAPPING_WORDS, PAGE};
@@ -228,8 +229,9 @@ struct Tally {
     pieces_alone: u64,
     unaligned: u64,
     unaligned_granted: u64,
-    /// Refused uncut and in pieces.
+    /// Refused uncut and in pieces; those of them for stale words.
     refused: u64,
+    stale: u64,
     repeated: u64,
     left_out: u64,
     mixed: u64,
@@ -295,6 +297,12 @@ fn check(random: &mut Random, tally: &mut Tally, start: &Table, asked: &Asked) {
     if uncut_answer.is_ok() {
         assert_eq!(outcome.other_refusal, None, "{asked:x?}");
     }
+    if uncut_answer == Err(Refusal::StaleWords) {
+        let is_stale = |refusal: Refusal| refusal == Refusal::StaleWords;
+        let granted = outcome.granted.contains(&true) || outcome.without_room;
+        assert!(!granted && outcome.other_refusal.is_none_or(is_stale));
+        tally.stale += u64::from(outcome.other_refusal.is_some_and(is_stale));
+    }
     if outcome.granted.iter().all(|&granted| granted) {
         assert!(uncut_answer.is_ok(), "{uncut_answer:?}, {asked:x?}");
         let pieces: Option<Vec<Asked>> = pieces.iter().copied().collect();
@@ -340,7 +348,6 @@ impl Tally {
     }
 
     fn assert_all(&self, least: u64) {
-        println!("{self:#?}");
         let Tally {
             series: _,
             calls: _,
@@ -353,6 +360,7 @@ impl Tally {
             unaligned,
             unaligned_granted,
             refused,
+            stale,
             repeated,
             left_out,
             mixed,
@@ -369,6 +377,7 @@ impl Tally {
             ("unaligned", unaligned),
             ("unaligned, a piece granted", unaligned_granted),
             ("refused", refused),
+            ("refused for stale words", stale),
             ("repeated", repeated),
             ("left out", left_out),
             ("by numbers and by record", mixed),
@@ -413,16 +422,16 @@ fn some_request(random: &mut Random, good: &Good) -> Asked {
 /// A table with little room: good, or with one thing changed.
 fn some_table(random: &mut Random, good: &Good) -> Table {
     let spare = random.pick(&[0, 1, 2, 2, 3, 4, 5, 8]);
-    let mut table = Table {
-        space: good.space,
-        words: good.words(random, spare),
-        count: good.mappings.len() as u64,
-    };
+    let mut table = good.table(spare);
     match random.below(32) {
         0 => damage(random, good, &mut table.words),
         1 => disturb_space(random, &mut table.space),
-        2 => table.count = random.below(table.count + 2),
+        2 => {
+            let count = random.below(table.count + 2);
+            table.recount(random, count);
+        }
         3 => table.words.truncate(table.words.len() - 1),
+        4 => make_stale(random, &mut table),
         _ => {}
     }
     table
@@ -450,6 +459,7 @@ fn good_tables_and_those_near_them() {
             }
         }
     }
+    println!("{tally:#?}");
     tally.assert_all(1000);
 }
 
@@ -461,7 +471,7 @@ fn any_words() {
     for _ in 0..INPUTS {
         let mut table = any_table(&mut random);
         if random.once_in(2) {
-            table.count = 0;
+            table.recount(&mut random, 0);
         }
         let good = good_table(&mut random, 4);
         let asked = some_request(&mut random, &good);

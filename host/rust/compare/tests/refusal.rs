@@ -4,7 +4,7 @@ use std::collections::BTreeSet;
 use std::error::Error;
 use waylluqen::Refusal;
 use waylluqen_compare::calls::{model_answer, Asking, Caller, Way};
-use waylluqen_compare::library;
+use waylluqen_compare::library::{self, NUMBERS};
 use waylluqen_compare::numbers::{space_of, LIMIT};
 use waylluqen_compare::requests::MAP;
 use waylluqen_compare::tables::Table;
@@ -34,7 +34,7 @@ fn without_room() -> Case {
 }
 
 /// What makes it the case of each refusal, in the order of their numbers.
-const CHANGES: [fn(&mut Case); 14] = [
+const CHANGES: [fn(&mut Case); 15] = [
     |case| case.table.space.size = 1,
     |case| case.table.words.truncate(3),
     |case| case.operation_words = 27,
@@ -49,6 +49,10 @@ const CHANGES: [fn(&mut Case); 14] = [
     |case| case.record_bytes = 39,
     |case| case.record.op = 2,
     |case| case.record.flags = 1,
+    |case| {
+        case.table.words.extend([0, 0, 0, 1]);
+        case.operation_words = 42;
+    },
 ];
 
 /// The refusal that the library gives, which is the model's.
@@ -83,7 +87,7 @@ fn all_refusals() -> Vec<Refusal> {
 #[test]
 fn numbers() {
     let numbers = all_refusals().into_iter().map(Refusal::number);
-    assert!(numbers.eq(1..=14));
+    assert!(numbers.eq(NUMBERS));
 }
 
 #[test]

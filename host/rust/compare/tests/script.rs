@@ -1,6 +1,6 @@
 //! Compares the script program to the model, script by script.
 
-use waylluqen_compare::printed::{Tally, ENDS, LINES, REFUSALS};
+use waylluqen_compare::printed::{Tally, ENDS, LINES, NO_ROOM, REFUSALS};
 use waylluqen_compare::program::Input;
 use waylluqen_compare::scripts::{bad_script, good_script, Script, ROOM};
 use waylluqen_compare::tables::{plain_spaces, small_spaces};
@@ -111,7 +111,7 @@ fn full_tables() {
     }
     tally.print();
     tally.assert_kinds(&LINES, 20);
-    tally.assert_kinds(&["refused 11"], 300);
+    tally.assert_kinds(&[NO_ROOM], 300);
 }
 
 /// Look-ups at every boundary of what some requests leave: in spaces of a few pages, and in tables

@@ -42,12 +42,7 @@ fn good_tables() {
     let mut random = Random::new(411);
     for _ in 0..1000 {
         let good = good_table(&mut random, MOST_MAPPINGS as u64);
-        let table = Table {
-            space: good.space,
-            words: good.words(&mut random, 1),
-            count: good.mappings.len() as u64,
-        };
-        assert_eq!(compare(&table), good.mappings.len());
+        assert_eq!(compare(&good.table(1)), good.mappings.len());
     }
 }
 

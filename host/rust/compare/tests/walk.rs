@@ -18,7 +18,7 @@ fn every_byte_of_every_run() {
     for space in small_spaces() {
         for mappings in [0, 1, 2, 2, 3, 3, 4, 8] {
             let good = fill_space(&mut random, space, mappings);
-            let table = good.table(&mut random, 1);
+            let table = good.table(1);
             let walk = Walk::new(&table);
             let runs = walk.runs();
             walk.assert_mappings(&runs);
@@ -38,7 +38,7 @@ fn every_byte_of_every_run() {
 /// Walks over a table run by run, and looks at the second byte of each run, its last one, and one
 /// of those between. Answers how many runs there are.
 fn walk_over(random: &mut Random, good: &Good, spare: usize) -> usize {
-    let table = good.table(random, spare);
+    let table = good.table(spare);
     let walk = Walk::new(&table);
     let runs = walk.runs();
     walk.assert_mappings(&runs);
@@ -141,7 +141,7 @@ fn runs_of_ranges() {
     let (mut ranges, mut runs) = ([0; 3], 0);
     for _ in 0..TABLES {
         let good = good_table(&mut random, 20);
-        let words = good.words(&mut random, 1);
+        let words = good.words(1);
         let view = View::new(&words, good.mappings.len() as u64);
         for _ in 0..20 {
             let [one, other] = [(); 2].map(|()| any_address(&mut random, &good));

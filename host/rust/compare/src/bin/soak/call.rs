@@ -46,7 +46,7 @@ impl Call {
                 let Table { space, count, .. } = &self.table;
                 if !self.goes_on {
                     caller.lend(&self.table.words);
-                    caller.stir(*count, *address);
+                    caller.stir(*address);
                 }
                 caller.look_up(way, space, *count, *address, *model);
             }

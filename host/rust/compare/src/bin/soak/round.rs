@@ -7,8 +7,8 @@ use waylluqen_compare::near::{disturb, narrow_record, near_record, widen};
 use waylluqen_compare::numbers::{disturb_space, good_space, other64};
 use waylluqen_compare::requests::{disturb_record, good_record, place, LONGEST_RECORD};
 use waylluqen_compare::tables::{
-    any_address, any_table, disturb_table, fill_space, good_table, large_spaces, plain_spaces,
-    small_spaces, some_operation_words, Good, Table, MANY_MAPPINGS, MOST_WORDS,
+    any_address, any_table, disturb_table, fill_space, good_table, large_spaces, make_stale,
+    plain_spaces, small_spaces, some_operation_words, Good, Table, MANY_MAPPINGS,
 };
 use waylluqen_model::random::Random;
 use waylluqen_model::table::mapping_at;
@@ -113,48 +113,38 @@ impl Round<'_> {
             _ => 12,
         };
         let good = good_table(self.random, largest);
-        let words = self.some_words(&good);
-        self.near(&good, &words);
+        let table = self.some_table(&good);
+        self.near(&good, &table);
     }
 
     fn large_table(&mut self) {
         let (space, mappings) = large(self.random);
         let good = fill_space(self.random, space, mappings as u64);
-        let words = self.some_words(&good);
-        self.near(&good, &words);
+        let table = self.some_table(&good);
+        self.near(&good, &table);
     }
 
-    /// Few mappings in a long table, and zeros behind them, or zeros but for one word.
+    /// Few mappings in a long table, often with a stale word.
     fn long_table(&mut self) {
         let good = good_table(self.random, 12);
-        let mut words = good.words(self.random, 0);
-        let used = words.len();
-        words.resize(
-            MOST_WORDS - self.random.below(2_000) as usize * MAPPING_WORDS,
-            0,
-        );
-        if self.random.once_in(2) {
-            let behind = (words.len() - used) as u64;
-            words[used + self.random.below(behind) as usize] = self.random.next_u64();
+        let shorter = self.random.below(2_000) as usize;
+        let mut table = good.table(MOST_MAPPINGS - good.mappings.len() - shorter);
+        if self.random.once_in(4) {
+            make_stale(self.random, &mut table);
         }
-        self.near(&good, &words);
+        self.near(&good, &table);
     }
 
-    /// The words of the mappings, with room for few more, of any words.
-    fn some_words(&mut self, good: &Good) -> Vec<u64> {
+    /// The table of the mappings, with room for few more.
+    fn some_table(&mut self, good: &Good) -> Table {
         let spare = self.random.pick(&[0, 0, 1, 2, 3]);
-        let spare = spare.min(MOST_MAPPINGS - good.mappings.len());
-        good.words(self.random, spare)
+        good.table(spare.min(MOST_MAPPINGS - good.mappings.len()))
     }
 
-    /// A good table or one near it, by numbers, by record, and looked at.
-    fn near(&mut self, good: &Good, words: &[u64]) {
+    /// A table or one near it, by numbers, by record, and looked at.
+    fn near(&mut self, good: &Good, whole: &Table) {
         for _ in 0..3 {
-            let mut table = Table {
-                space: good.space,
-                words: words.to_vec(),
-                count: good.mappings.len() as u64,
-            };
+            let mut table = whole.clone();
             let mut record = near_record(self.random, good);
             disturb(self.random, good, &mut table, &mut record);
             self.add(&table, false, Question::Record(record));
@@ -169,7 +159,7 @@ impl Round<'_> {
     fn any_words(&mut self) {
         let mut table = any_table(self.random);
         if self.random.once_in(4) {
-            table.count = 0;
+            table.recount(self.random, 0);
         }
         let space = match space_holds(&table.space) {
             true => table.space,
@@ -276,11 +266,7 @@ fn large_plan(random: &mut Random) -> Plan {
     let spare = random.below(4) as usize;
     let good = fill_space(random, space, (capacity - spare) as u64);
     Plan {
-        table: Table {
-            space,
-            words: good.words(random, spare),
-            count: good.mappings.len() as u64,
-        },
+        table: good.table(spare),
         steps: 10 + random.below(30),
         narrow: !random.once_in(4),
     }

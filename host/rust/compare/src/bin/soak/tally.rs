@@ -1,14 +1,14 @@
 //! How often each kind of call and each answer came.
 
 use crate::call::{Asked, Call};
-use waylluqen_compare::library::{Bound, Looked};
+use waylluqen_compare::library::{Bound, ByNumber, Looked, NUMBERS};
 use waylluqen_compare::marks::Marks;
 use waylluqen_compare::sights::Sights;
 use waylluqen_compare::tables::{Table, MANY_MAPPINGS};
-use waylluqen_model::answer::{NO_ROOM, UNALIGNED};
+use waylluqen_model::answer::{NO_ROOM, OK, STALE_WORDS, UNALIGNED};
 use waylluqen_model::{MAPPING_WORDS, MOST_MAPPINGS};
 
-/// Where there are more words behind the last mapping, the library looks at them before it clears.
+/// More words than these behind the last mapping are many.
 const MANY_WORDS: usize = 4096;
 
 #[derive(Default)]
@@ -24,23 +24,31 @@ pub struct Tally {
     /// Calls on good tables of more than many mappings; those on full ones of as many as may be.
     on_large: u64,
     on_full: u64,
-    /// Grants in tables that had many words behind the last mapping; those with a stale one there.
+    /// Calls that were granted or answered with many words behind the last mapping.
     long: u64,
+    /// Calls that were refused for stale words; those for a single one, and for one of many words.
     stale: u64,
+    one_stale: u64,
+    long_stale: u64,
     marks: Marks,
     sights: Sights,
-    /// By number; those that a check does not refuse are at 0.
-    refused: [u64; 15],
+    /// Those that a check does not refuse are at 0.
+    refused: ByNumber,
 }
 
-/// Whether nothing is wrong with the call's table: it is answered, or refused by a later rule.
-fn has_good_table(asked: &Asked) -> bool {
+/// The number that a call on a table is answered with; 0 where it is not refused.
+fn number_of(asked: &Asked) -> Option<u32> {
     let refused = match asked {
         Asked::Numbers(_, bound) | Asked::Record(_, bound) => bound.as_ref().err(),
         Asked::Lookup(_, looked) => looked.as_ref().err(),
-        Asked::Check(..) => return false,
+        Asked::Check(..) => return None,
     };
-    refused.is_none_or(|refused| (UNALIGNED..=NO_ROOM).contains(&refused.number))
+    Some(refused.map_or(OK, |refused| refused.number))
+}
+
+/// The words behind the mappings of a table whose count it has room for.
+fn behind(table: &Table) -> &[u64] {
+    &table.words[table.count as usize * MAPPING_WORDS..]
 }
 
 impl Tally {
@@ -70,18 +78,30 @@ impl Tally {
     }
 
     fn count_table(&mut self, call: &Call) {
-        let mappings = call.table.count;
-        if has_good_table(&call.asked) && mappings > MANY_MAPPINGS as u64 {
-            self.on_large += 1;
-            self.on_full += u64::from(mappings == MOST_MAPPINGS as u64);
-        }
-        if let Asked::Numbers(_, Ok(_)) | Asked::Record(_, Ok(_)) = &call.asked {
-            let behind = &call.table.words[mappings as usize * MAPPING_WORDS..];
-            if behind.len() > MANY_WORDS {
-                self.long += 1;
-                self.stale += u64::from(behind.iter().any(|&word| word != 0));
+        match number_of(&call.asked) {
+            Some(OK) => {
+                self.count_good(&call.table);
+                self.long += u64::from(behind(&call.table).len() > MANY_WORDS);
             }
+            Some(UNALIGNED..=NO_ROOM) => self.count_good(&call.table),
+            Some(STALE_WORDS) => self.count_stale(&call.table),
+            _ => {}
         }
+    }
+
+    fn count_good(&mut self, table: &Table) {
+        if table.count > MANY_MAPPINGS as u64 {
+            self.on_large += 1;
+            self.on_full += u64::from(table.count == MOST_MAPPINGS as u64);
+        }
+    }
+
+    fn count_stale(&mut self, table: &Table) {
+        let behind = behind(table);
+        let is_one = behind.iter().filter(|&&word| word != 0).count() == 1;
+        self.stale += 1;
+        self.one_stale += u64::from(is_one);
+        self.long_stale += u64::from(is_one && behind.len() > MANY_WORDS);
     }
 
     fn count_bound(&mut self, bound: &Bound) {
@@ -117,14 +137,12 @@ impl Tally {
             checks,
             granted,
             largest,
-            refused: [passed, refused @ ..],
+            refused: [passed, ..],
             ..
         } = self;
         let calls = by_numbers + by_record + lookups + checks;
-        let refused: Vec<String> = (1..)
-            .zip(refused)
-            .map(|(number, times)| format!("{number}: {times}"))
-            .collect();
+        let times = |number: u32| self.refused[number as usize];
+        let refused = NUMBERS.map(|number| format!("{number}: {}", times(number)));
         format!(
             "host/soak: passed, seed {seed}, {rounds} rounds\n\
              {calls} calls, each made three ways: {by_numbers} requests by numbers, {by_record} by \
@@ -146,13 +164,17 @@ impl Tally {
             on_full,
             long,
             stale,
+            one_stale,
+            long_stale,
             ..
         } = self;
         format!(
             "{on_large} calls on good tables of more than {MANY_MAPPINGS} mappings, {on_full} of them \
              on full ones of {MOST_MAPPINGS}\n\
-             {long} requests granted with more than {MANY_WORDS} words behind the last mapping, {stale} \
-             of them with a stale one"
+             {long} calls granted or answered with more than {MANY_WORDS} words behind the last \
+             mapping\n\
+             {stale} calls refused for stale words, {one_stale} of them for a single one, \
+             {long_stale} for a single one of more than {MANY_WORDS} words"
         )
     }
 
