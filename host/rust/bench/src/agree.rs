@@ -3,7 +3,7 @@
 
 use crate::line::{lines, Call, Line};
 use crate::manager::{contenders, lent, Bound, Contender, Grant, Looked, TREE};
-use waylluqen::Shown;
+use waylluqen::{Refusal, Shown};
 use waylluqen_compare::library::{self, change_table, write_operations};
 use waylluqen_compare::near::{disturb, near_record, widen};
 use waylluqen_compare::tables::{
@@ -44,7 +44,7 @@ fn contenders_for(table: &Table) -> impl Iterator<Item = &'static Contender> {
 }
 
 /// A request to each contender that can have the table, with words behind the list's operations.
-fn compare_bind(table: &Table, request: &model::Request, list_words: usize) {
+fn compare_bind(table: &Table, request: &model::Request, list_words: usize) -> Bound {
     let Table {
         space,
         words,
@@ -69,6 +69,7 @@ fn compare_bind(table: &Table, request: &model::Request, list_words: usize) {
         assert_eq!(count, expected_count, "{name}, {request:x?}");
         assert!(list == expected_list, "{name}'s operations, {request:x?}");
     }
+    expected
 }
 
 fn compare_lookup(table: &Table, address: u64) -> Looked {
@@ -94,14 +95,15 @@ fn some_table(random: &mut Random, good: &Good) -> Table {
         _ => random.below(3),
     };
     let mut table = good.table(room.min(spare as usize));
-    if random.once_in(4) {
+    if random.once_in(8) {
         make_stale(random, &mut table);
     }
     table
 }
 
-/// A random table, most of them good, with a request near its mappings and addresses in it.
-fn compare_random(random: &mut Random) {
+/// A random table, most of them good, with a request near its mappings and addresses in it. Answers
+/// what the request is answered.
+fn compare_random(random: &mut Random) -> Bound {
     // Few are large: small ones have as many edges, and are quickly compared.
     let largest = random.pick(&[8, 40, 40, 512, MOST_MAPPINGS as u64]);
     let good = good_table(random, largest);
@@ -113,10 +115,10 @@ fn compare_random(random: &mut Random) {
         widen(random, &mut request);
     }
     let list_words = some_operation_words(random, table.words.len());
-    compare_bind(&table, &request, list_words);
     for _ in 0..4 {
         let _ = compare_lookup(&table, any_address(random, &good));
     }
+    compare_bind(&table, &request, list_words)
 }
 
 /// What is timed itself: every call is granted or finds a mapping, and the last leaves the table as
@@ -139,7 +141,8 @@ fn compare_line(line: &Line) {
                     offset: given.offset,
                 };
                 let list_words = line.list().len();
-                compare_bind(&table, &request, list_words);
+                let answer = compare_bind(&table, &request, list_words);
+                assert!(answer.is_ok(), "{}", line.name());
                 let Table {
                     space,
                     words,
@@ -161,9 +164,16 @@ pub fn assert_equal() {
         compare_line(&line);
     }
     let mut random = Random::new(SEED);
+    let (mut granted, mut stale) = (0, 0);
     for _ in 0..RANDOM_TABLES {
-        compare_random(&mut random);
+        match compare_random(&mut random) {
+            Ok(_) => granted += 1,
+            Err(Refusal::StaleWords) => stale += 1,
+            Err(_) => {}
+        }
     }
+    assert!(granted >= RANDOM_TABLES / 3, "only {granted} granted");
+    assert!(stale >= RANDOM_TABLES / 20, "only {stale} stale");
 }
 
 #[test]

@@ -122,8 +122,8 @@ fn look_up(what: &'static str, room: usize, count: usize) -> Line {
     Line::new(what, room, table(space, &mappings, room), calls)
 }
 
-/// A page mapped into an empty table and unmapped again: nearly all that such a call writes are the
-/// zeros behind the last mapping.
+/// A page mapped into an empty table and unmapped again: nearly all that such a call does is to look
+/// at the zeros behind the last mapping.
 fn empty(room: usize) -> Line {
     let (space, _) = space_and_mappings(room);
     let calls = vec![

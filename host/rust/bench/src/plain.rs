@@ -174,37 +174,42 @@ impl Way for Joined {
     }
 }
 
-/// So many mappings are cleared sooner than the C library is called.
-const FEW: usize = 4;
+/// How many mappings are joined in a turn: of the ways to look at zeros that were tried this one
+/// was the quickest, from few to as many as may be.
+const BLOCK: usize = 32;
 
-/// Of so many mappings the words stay in the nearest cache, where writing is the quickest.
-const NEAR: usize = 1024;
-
-/// How many words are looked at together.
-const BLOCK: usize = 128;
-
-/// Makes the words of these places zero, in the way that is the quickest for so many.
-fn clear(places: &mut [Mapping]) {
-    if places.len() <= FEW {
-        places.fill([0; MAPPING_WORDS]);
-    } else if places.len() <= NEAR {
-        places.as_flattened_mut().fill(0);
-    } else {
-        clear_far(places.as_flattened_mut());
+fn join(all: &mut Mapping, mapping: &Mapping) {
+    for (all, word) in all.iter_mut().zip(mapping) {
+        *all |= word;
     }
 }
 
-/// Looks first, and writes only what is not zero yet: in a cache further away, reading costs less
-/// than writing.
-#[inline(never)]
-fn clear_far(words: &mut [u64]) {
-    let (blocks, rest) = words.as_chunks_mut::<BLOCK>();
+/// Whether every word of these places is zero.
+fn are_zero(places: &[Mapping]) -> bool {
+    let mut all = [0; MAPPING_WORDS];
+    let (blocks, rest) = places.as_chunks::<BLOCK>();
     for block in blocks {
-        if block.iter().fold(0, |all, word| all | word) != 0 {
-            block.fill(0);
-        }
+        block.iter().for_each(|mapping| join(&mut all, mapping));
     }
-    rest.fill(0);
+    rest.iter().for_each(|mapping| join(&mut all, mapping));
+    all == [0; MAPPING_WORDS]
+}
+
+/// Refuses a table with another word than zero behind its mappings.
+fn check_behind(behind: &[Mapping]) -> Result<(), Refusal> {
+    are_zero(behind).then_some(()).ok_or(Refusal::StaleWords)
+}
+
+/// So many mappings are cleared sooner than the C library is called.
+const FEW: usize = 4;
+
+/// Makes the words of these places zero.
+fn clear(places: &mut [Mapping]) {
+    if places.len() <= FEW {
+        places.fill([0; MAPPING_WORDS]);
+    } else {
+        places.as_flattened_mut().fill(0);
+    }
 }
 
 /// A table in lent words.
@@ -247,7 +252,9 @@ fn bind<W: Way>(
     let count = counted(count, capacity)?;
     let table: &mut [Mapping] = words.as_chunks_mut().0;
     let last = request.address.wrapping_add(request.size).wrapping_sub(1);
-    let hits = W::hits(&bounds, &table[..count], request.address, last)?;
+    let (mappings, behind) = table.split_at(count);
+    let hits = W::hits(&bounds, mappings, request.address, last)?;
+    check_behind(behind)?;
     let end = check_request(&bounds, request)?;
     change(table, count, list, request, hits, end)
 }
@@ -286,7 +293,9 @@ fn change(
     {
         *place = *new;
     }
-    clear(&mut table[after..]);
+    if after < count {
+        clear(&mut table[after..count]);
+    }
     Ok(Grant {
         operations: number as u64,
         count: after as u64,
@@ -296,8 +305,10 @@ fn change(
 fn lookup<W: Way>(space: Space, words: &[u64], count: u64, address: u64) -> Looked {
     let bounds = bounds(space)?;
     let count = counted(count, capacity(words.len())?)?;
-    let mappings: &[Mapping] = &words.as_chunks().0[..count];
+    let table: &[Mapping] = words.as_chunks().0;
+    let (mappings, behind) = table.split_at(count);
     let hits = W::hits(&bounds, mappings, address, address)?;
+    check_behind(behind)?;
     Ok(match mappings.get(hits.start) {
         Some(mapping) if mapping[0] <= address => seen_in(mapping, address),
         next => seen_off(&bounds, next.map(|next| next[0]), address),
@@ -320,15 +331,38 @@ impl<W: Way> Manager for Plain<W> {
     }
 }
 
-#[test]
-fn any_word_is_cleared() {
-    for length in [1, FEW, NEAR, NEAR + BLOCK / MAPPING_WORDS + 1] {
-        for place in 0..length * MAPPING_WORDS {
+#[cfg(test)]
+mod tests {
+    use super::*;
+
+    /// About where the ways of clearing and of looking change, at 4 and at multiples of 32.
+    const LENGTHS: [usize; 10] = [0, 1, 2, 4, 5, 31, 32, 33, 96, 100];
+
+    #[test]
+    fn any_word_is_seen_and_cleared() {
+        for length in LENGTHS {
             let mut table = vec![[0; MAPPING_WORDS]; length];
-            table.as_flattened_mut()[place] = 1 << (place % 64);
-            clear(&mut table);
-            let is_zero = table.as_flattened().iter().all(|&word| word == 0);
-            assert!(is_zero, "word {place} of {length} mappings");
+            assert!(are_zero(&table));
+            for place in 0..length * MAPPING_WORDS {
+                table.as_flattened_mut()[place] = 1 << (place % 64);
+                assert!(!are_zero(&table), "word {place} of {length} mappings");
+                clear(&mut table);
+                assert!(table.as_flattened().iter().all(|&word| word == 0));
+            }
+        }
+    }
+
+    /// Two that add up to 0, and two that are alike.
+    #[test]
+    fn two_words_are_seen() {
+        for pair in [[1, u64::MAX], [1 << 63, 1 << 63], [7, 7]] {
+            for places in [[0, 1], [0, 4], [3, 4 * BLOCK], [4 * BLOCK, 4 * BLOCK + 7]] {
+                let mut table = vec![[0; MAPPING_WORDS]; BLOCK + 2];
+                for (place, word) in places.into_iter().zip(pair) {
+                    table.as_flattened_mut()[place] = word;
+                }
+                assert!(!are_zero(&table), "{places:?} {pair:?}");
+            }
         }
     }
 }
