@@ -287,10 +287,8 @@ fn change(
         number += 1;
     }
     table.copy_within(hits.end..count, behind);
-    for (place, new) in table[hits.start..behind]
-        .iter_mut()
-        .zip(new.iter().flatten())
-    {
+    let places = table[hits.start..behind].iter_mut();
+    for (place, new) in places.zip(new.iter().flatten()) {
         *place = *new;
     }
     if after < count {
