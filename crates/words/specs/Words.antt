@@ -4,6 +4,7 @@ use mathlib.Core.Path.{_≡_}
 use mathlib.Core.List.{List, _++_}
 use Prim.Native.Nat.{ℕ, _+_, _-_}
 use lib.ListN.{length, take, drop, replicate}
+use Rattle.words.specs.declared.Four.{Four}
 
 -- a run written over the words from place `at` on
 unfoldable pub stored : List ℕ → ℕ → List ℕ → List ℕ
@@ -24,7 +25,15 @@ Zeros ws from n = take n (drop from ws) ≡ replicate n 0
 abbrev pub ZeroFrom : List ℕ → ℕ → Type 0
 ZeroFrom ws from = drop from ws ≡ replicate (length ws - from) 0
 
--- what those n words were joined to is zero exactly if they are
+-- what those n words were joined to is zero exactly if they are. In one word
 pub record Tells (ws : List ℕ) (from n seen : ℕ) : Type 0 where
   pub words-zero : seen ≡ 0 → Zeros ws from n
   pub seen-zero : Zeros ws from n → seen ≡ 0
+
+-- in four, with what was joined before
+abbrev pub Blank : Four → Type 0
+Blank f = (f .first ≡ 0) × (f .second ≡ 0) × (f .third ≡ 0) × (f .fourth ≡ 0)
+
+pub record Joins (seen : Four) (ws : List ℕ) (from n : ℕ) (all : Four) : Type 0 where
+  pub words-zero : Blank all → Blank seen × Zeros ws from n
+  pub all-zero : Blank seen → Zeros ws from n → Blank all

@@ -3,7 +3,15 @@ ghost use mathlib.Core.Path.{_≡_};
 ghost use mathlib.Core.Bool.{true};
 ghost use Prim.Native.Nat.{_+_, _-_, _*_, _≤_};
 ghost use lib.ListN.{length, replicate};
-ghost use Rattle.words.specs.Words.{stored, moved, Tells, ZeroFrom};
+ghost use Rattle.words.specs.Words.{stored, moved, Tells, Blank, Joins, ZeroFrom};
+
+// Words joined bit by bit, four at a time: the first ones of each four, the second ones, and so on.
+struct Four {
+    first: u64,
+    second: u64,
+    third: u64,
+    fourth: u64,
+}
 
 // Writes the run over the words from `at` on.
 pub fn store(t: &mut [u64], at: usize, run: &[u64])
@@ -160,48 +168,82 @@ pub fn clear(t: &mut [u64], from: usize, to: usize)
     }
 }
 
-// Four words joined bit by bit.
-fn joined_four(t: &[u64], at: usize) -> u64
+// Nothing was joined yet.
+fn none_joined() -> Four
+    ensures { λ none. ⌜ Blank none ⌝ }
+{
+    Four {
+        first: 0,
+        second: 0,
+        third: 0,
+        fourth: 0,
+    }
+}
+
+// Four words more, each joined with its own.
+fn join_four(seen: Four, t: &[u64], at: usize) -> Four
     requires { ⌜ at + 4 ≤ length (now t) ⌝ }
-    ensures { λ seen. ⌜ Tells (now (t .entry)) at 4 seen ⌝ }
+    ensures { λ all. ⌜ Joins seen (now (t .entry)) at 4 all ⌝ }
 {
-    t[at] | t[at + 1] | t[at + 2] | t[at + 3]
+    Four {
+        first: seen.first | t[at],
+        second: seen.second | t[at + 1],
+        third: seen.third | t[at + 2],
+        fourth: seen.fourth | t[at + 3],
+    }
 }
 
-// Sixteen of them.
-fn joined_sixteen(t: &[u64], at: usize) -> u64
+// Sixteen more.
+fn join_sixteen(seen: Four, t: &[u64], at: usize) -> Four
     requires { ⌜ at + 16 ≤ length (now t) ⌝ }
-    ensures { λ seen. ⌜ Tells (now (t .entry)) at 16 seen ⌝ }
+    ensures { λ all. ⌜ Joins seen (now (t .entry)) at 16 all ⌝ }
 {
-    joined_four(t, at) | joined_four(t, at + 4) | joined_four(t, at + 8) | joined_four(t, at + 12)
+    let one = join_four(seen, t, at);
+    let two = join_four(one, t, at + 4);
+    let three = join_four(two, t, at + 8);
+    join_four(three, t, at + 12)
 }
 
-// Sixty-four of them.
-fn joined_sixty_four(t: &[u64], at: usize) -> u64
+// Sixty-four more.
+fn join_sixty_four(seen: Four, t: &[u64], at: usize) -> Four
     requires { ⌜ at + 64 ≤ length (now t) ⌝ }
-    ensures { λ seen. ⌜ Tells (now (t .entry)) at 64 seen ⌝ }
+    ensures { λ all. ⌜ Joins seen (now (t .entry)) at 64 all ⌝ }
 {
-    joined_sixteen(t, at)
-        | joined_sixteen(t, at + 16)
-        | joined_sixteen(t, at + 32)
-        | joined_sixteen(t, at + 48)
+    let one = join_sixteen(seen, t, at);
+    let two = join_sixteen(one, t, at + 16);
+    let three = join_sixteen(two, t, at + 32);
+    join_sixteen(three, t, at + 48)
 }
 
-// `turns` times sixty-four of them.
-fn joined_turns(t: &[u64], from: usize, turns: usize) -> u64
+// `turns` times sixty-four more.
+fn join_turns(seen: Four, t: &[u64], from: usize, turns: usize) -> Four
     requires { ⌜ from + 64 * turns ≤ length (now t) ⌝ }
-    ensures { λ seen. ⌜ Tells (now (t .entry)) from (64 * turns) seen ⌝ }
+    ensures { λ all. ⌜ Joins seen (now (t .entry)) from (64 * turns) all ⌝ }
 {
     let mut i: usize = 0;
-    let mut seen: u64 = 0;
+    let mut all = seen;
     while i < turns {
-        seen = seen | joined_sixty_four(t, from + 64 * i);
+        all = join_sixty_four(all, t, from + 64 * i);
         i += 1;
     }
-    seen
+    all
 }
 
-// All words from `from` on, which are few, one by one.
+// `fours` times four more, which are few.
+fn join_fours(seen: Four, t: &[u64], from: usize, fours: usize) -> Four
+    requires { ⌜ from + 4 * fours ≤ length (now t) ⌝ }
+    ensures { λ all. ⌜ Joins seen (now (t .entry)) from (4 * fours) all ⌝ }
+{
+    let mut i: usize = 0;
+    let mut all = seen;
+    while i < fours {
+        all = join_four(all, t, from + 4 * i);
+        i += 1;
+    }
+    all
+}
+
+// All words from `from` on joined to one, one by one: there are fewer than four.
 fn joined_from(t: &[u64], from: usize) -> u64
     requires { ⌜ from ≤ length (now t) ⌝ }
     ensures { λ seen. ⌜ Tells (now (t .entry)) from (length (now (t .entry)) - from) seen ⌝ }
@@ -221,6 +263,10 @@ pub fn are_zero_from(t: &[u64], from: usize) -> bool
     ensures { λ b. ⌜ (b ≡ true → ZeroFrom (now (t .entry)) from) × (ZeroFrom (now (t .entry)) from → b ≡ true) ⌝ }
 {
     let turns = (t.len() - from) / 64;
-    let seen = joined_turns(t, from, turns) | joined_from(t, from + 64 * turns);
-    seen == 0
+    let most = join_turns(none_joined(), t, from, turns);
+    let at = from + 64 * turns;
+    let fours = (t.len() - at) / 4;
+    let all = join_fours(most, t, at, fours);
+    let rest = joined_from(t, at + 4 * fours);
+    (all.first | all.second | all.third | all.fourth | rest) == 0
 }
