@@ -234,13 +234,15 @@ fn write_replacement(t: &mut [u64], i: usize, new: Replacement)
 }
 
 // Makes the words behind the last of `after` mappings zero, where there were `count`: those of the mappings that are gone.
-// Behind them words are zero already.
+// Behind them words are zero already. Mostly one is gone, which is stored by itself: of the others the compiler makes a
+// call of memset, whose wide registers can slow down what comes next.
 fn clear_behind(t: &mut [u64], count: usize, after: usize)
     requires { ⌜ (4 * count ≤ length (now t)) × (4 * after ≤ length (now t)) × ZeroFrom (now t) (4 * max count after) ⌝ }
     ensures { λ _. ⌜ now (t .exit) ≡ cleared (now (t .entry)) (4 * after) ⌝ }
 {
     if after < count {
-        words::clear(t, 4 * after, 4 * count)
+        words::store(t, 4 * after, &[0, 0, 0, 0]);
+        words::clear(t, 4 * (after + 1), 4 * count)
     }
 }
 

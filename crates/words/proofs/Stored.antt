@@ -117,6 +117,13 @@ zeros-next ws at k h =
     let l : length zs ≡ k = length-replicate k 0 in
     rw (← replicate-append-replicate {A = ℕ} k 1 0) (rw l at (stored-word ws at zs 0 (omega arith)))
 
+-- zeros, and more behind them
+pub zeros-more : (ws : List ℕ) (at n m : ℕ) → at ≤ length ws
+    → stored (stored ws at (replicate n 0)) (at + n) (replicate m 0) ≡ stored ws at (replicate (n + m) 0)
+zeros-more ws at n m h =
+    let l : length {A = ℕ} (replicate n 0) ≡ n = length-replicate n 0 in
+    rw (← replicate-append-replicate {A = ℕ} n m 0) (rw l at (stored-behind ws at (replicate n 0) (replicate m 0) h))
+
 -- ── zeros to the end ──
 
 pub cleared-is : (ws : List ℕ) (from : ℕ) → take from ws ++ replicate (length ws - from) 0 ≡ cleared ws from

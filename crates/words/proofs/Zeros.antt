@@ -5,7 +5,7 @@ use mathlib.Core.List.{List, [], _∷_}
 use Prim.Native.Nat.{ℕ, _+_, _-_, _≤_, _<_}
 use native.Mathlib.Omega.{arith}
 use lib.Bits.{bitOr, or-add-and, and-le-l, and-le-r}
-use lib.ListN.{length, getD, take, drop, replicate, take-append-drop, length-drop, length-replicate, replicate-append-replicate}
+use lib.ListN.{length, getD, take, drop, replicate, take-append-drop, drop-of-length-le, length-drop, length-replicate, replicate-append-replicate}
 use lib.Seq.{take-at, drop-at, take-add, take-take, take-length, drop-drop, drop-cons}
 use Rattle.words.specs.declared.Four.{Four}
 use Rattle.words.specs.Words.{stored, cleared, Zeros, ZeroFrom, Tells, Blank, Joins}
@@ -105,6 +105,11 @@ module _ (ws : List ℕ) (from : ℕ) where
             let y = rw e at (zero-all z) in
             (j .all-zero none (zeros-first n (length ws - (from + n)) y), t .seen-zero (zeros-second n (length ws - (from + n)) h y)),
       )
+
+  pub zero-end : from ≡ length ws → ZeroFrom ws from
+  zero-end e =
+      let n : length ws - from ≡ 0 = omega arith in
+      rw n (drop-of-length-le ws {i = from} (omega arith))
 
   -- where they are, a clear changes nothing
   pub cleared-zero : ZeroFrom ws from → cleared ws from ≡ ws

@@ -25,15 +25,16 @@ Zeros ws from n = take n (drop from ws) ≡ replicate n 0
 abbrev pub ZeroFrom : List ℕ → ℕ → Type 0
 ZeroFrom ws from = drop from ws ≡ replicate (length ws - from) 0
 
--- what those n words were joined to is zero exactly if they are. In one word
+-- what those n words were joined to, in one word, is zero exactly if they are
 pub record Tells (ws : List ℕ) (from n seen : ℕ) : Type 0 where
   pub words-zero : seen ≡ 0 → Zeros ws from n
   pub seen-zero : Zeros ws from n → seen ≡ 0
 
--- in four, with what was joined before
+-- four words are zero
 abbrev pub Blank : Four → Type 0
 Blank f = (f .first ≡ 0) × (f .second ≡ 0) × (f .third ≡ 0) × (f .fourth ≡ 0)
 
+-- what they were joined to in four words, with what was joined before, is zero exactly if both are
 pub record Joins (seen : Four) (ws : List ℕ) (from n : ℕ) (all : Four) : Type 0 where
   pub words-zero : Blank all → Blank seen × Zeros ws from n
   pub all-zero : Blank seen → Zeros ws from n → Blank all

@@ -204,32 +204,36 @@ fn join_sixteen(seen: Four, t: &[u64], at: usize) -> Four
     join_four(three, t, at + 12)
 }
 
-// Sixty-four more.
-fn join_sixty_four(seen: Four, t: &[u64], at: usize) -> Four
-    requires { ⌜ at + 64 ≤ length (now t) ⌝ }
-    ensures { λ all. ⌜ Joins seen (now (t .entry)) at 64 all ⌝ }
+// A turn: a hundred and twenty-eight more. Turns of this length read memory the quickest.
+fn join_turn(seen: Four, t: &[u64], at: usize) -> Four
+    requires { ⌜ at + 128 ≤ length (now t) ⌝ }
+    ensures { λ all. ⌜ Joins seen (now (t .entry)) at 128 all ⌝ }
 {
     let one = join_sixteen(seen, t, at);
     let two = join_sixteen(one, t, at + 16);
     let three = join_sixteen(two, t, at + 32);
-    join_sixteen(three, t, at + 48)
+    let four = join_sixteen(three, t, at + 48);
+    let five = join_sixteen(four, t, at + 64);
+    let six = join_sixteen(five, t, at + 80);
+    let seven = join_sixteen(six, t, at + 96);
+    join_sixteen(seven, t, at + 112)
 }
 
-// `turns` times sixty-four more.
+// So many turns.
 fn join_turns(seen: Four, t: &[u64], from: usize, turns: usize) -> Four
-    requires { ⌜ from + 64 * turns ≤ length (now t) ⌝ }
-    ensures { λ all. ⌜ Joins seen (now (t .entry)) from (64 * turns) all ⌝ }
+    requires { ⌜ from + 128 * turns ≤ length (now t) ⌝ }
+    ensures { λ all. ⌜ Joins seen (now (t .entry)) from (128 * turns) all ⌝ }
 {
     let mut i: usize = 0;
     let mut all = seen;
     while i < turns {
-        all = join_sixty_four(all, t, from + 64 * i);
+        all = join_turn(all, t, from + 128 * i);
         i += 1;
     }
     all
 }
 
-// `fours` times four more, which are few.
+// `fours` times four more, fewer than make a turn.
 fn join_fours(seen: Four, t: &[u64], from: usize, fours: usize) -> Four
     requires { ⌜ from + 4 * fours ≤ length (now t) ⌝ }
     ensures { λ all. ⌜ Joins seen (now (t .entry)) from (4 * fours) all ⌝ }
@@ -257,14 +261,18 @@ fn joined_from(t: &[u64], from: usize) -> u64
     seen
 }
 
-// Whether all words from `from` on are zero: one look at all of them joined, without a branch for each.
+// Whether all words from `from` on are zero: one look at all of them joined, without a branch for each. Mostly there are
+// none.
 pub fn are_zero_from(t: &[u64], from: usize) -> bool
     requires { ⌜ from ≤ length (now t) ⌝ }
     ensures { λ b. ⌜ (b ≡ true → ZeroFrom (now (t .entry)) from) × (ZeroFrom (now (t .entry)) from → b ≡ true) ⌝ }
 {
-    let turns = (t.len() - from) / 64;
+    if from == t.len() {
+        return true;
+    }
+    let turns = (t.len() - from) / 128;
     let most = join_turns(none_joined(), t, from, turns);
-    let at = from + 64 * turns;
+    let at = from + 128 * turns;
     let fours = (t.len() - at) / 4;
     let all = join_fours(most, t, at, fours);
     let rest = joined_from(t, at + 4 * fours);

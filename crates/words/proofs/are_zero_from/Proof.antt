@@ -1,14 +1,19 @@
 -- `words::are_zero_from` meets its contract.
 -- Assumes nothing.
-use mathlib.Core.Path.{_≡_}
+use mathlib.Core.Path.{_≡_, refl}
 use Prim.Native.Nat.{ℕ, _+_, _-_, _*_, _/_}
 use native.Mathlib.Omega.{arith}
 use lib.ListN.{length}
-use Rattle.words.proofs.Zeros.{more-join, joined-zero, blank-or, or-blank}
+use Rattle.words.proofs.Zeros.{zero-end, more-join, joined-zero, blank-or, or-blank}
 use borrow.Author.Tests.{eqb-true, eq-eqb}
 use borrow.Author.Needs.{needs}
 use Rattle.words.proofs.are_zero_from.Statement.{statement}
 use Rattle.words.proofs.are_zero_from.Tie as tie
+
+returns : tie.Need-returns
+returns c =
+    let a = c .before .before .args in
+    (λ b. zero-end (a .t .now) (a .from) (c .if1 .taken), λ z. refl)
 
 sub-turns : tie.Need-sub-turns
 sub-turns c = search needs
@@ -40,14 +45,14 @@ add-joined-from c = search needs
 joined-from-requires : tie.Need-joined-from-requires
 joined-from-requires c κs = search needs
 
-returns : tie.Need-returns
-returns c =
+returns-2 : tie.Need-returns-2
+returns-2 c =
     let rest = c .before .before .before in
     let fours = rest .before in
     let turns = fours .before in
     let none = turns .before in
-    let a = none .before .before .args in
-    let most : ℕ = 64 * ((length (a .t .now) - a .from) / 64) in
+    let a = none .before .before .before .args in
+    let most : ℕ = 128 * ((length (a .t .now) - a .from) / 128) in
     let more : ℕ = 4 * ((length (a .t .now) - (a .from + most)) / 4) in
     let at : a .from + most + more ≡ a .from + (most + more) = omega arith in
     let all = fours .join-fours .result in
@@ -61,6 +66,7 @@ pub are-zero-from-spec : {M : Type 1} → statement M
 are-zero-from-spec =
     tie.close
     (tie.spec
+    returns
     sub-turns
     none-joined-requires
     join-turns-requires
@@ -71,4 +77,4 @@ are-zero-from-spec =
     mul-joined-from
     add-joined-from
     joined-from-requires
-    returns)
+    returns-2)

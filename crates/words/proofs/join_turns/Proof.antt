@@ -10,7 +10,7 @@ use Rattle.words.proofs.join_turns.Statement.{statement}
 use Rattle.words.proofs.join_turns.Tie as tie
 
 abbrev Inv-loop : tie.InvT-loop
-Inv-loop t from turns i₀ all₀ i all = (i ≤ turns) × Joins all₀ t from (64 * i) all
+Inv-loop t from turns i₀ all₀ i all = (i ≤ turns) × Joins all₀ t from (128 * i) all
 
 abbrev μ-loop : tie.MeasureT-loop
 μ-loop t from turns i₀ all₀ i all = turns - i
@@ -18,14 +18,14 @@ abbrev μ-loop : tie.MeasureT-loop
 loop-holds : tie.Need-loop-holds Inv-loop μ-loop
 loop-holds c = let a = c .before .args in (search needs, none-join (a .t .now) (a .from) (a .seen))
 
-mul-join-sixty-four : tie.Need-mul-join-sixty-four Inv-loop μ-loop
-mul-join-sixty-four c = search needs
+mul-join-turn : tie.Need-mul-join-turn Inv-loop μ-loop
+mul-join-turn c = search needs
 
-add-join-sixty-four : tie.Need-add-join-sixty-four Inv-loop μ-loop
-add-join-sixty-four c = search needs
+add-join-turn : tie.Need-add-join-turn Inv-loop μ-loop
+add-join-turn c = search needs
 
-join-sixty-four-requires : tie.Need-join-sixty-four-requires Inv-loop μ-loop
-join-sixty-four-requires c κs = search needs
+join-turn-requires : tie.Need-join-turn-requires Inv-loop μ-loop
+join-turn-requires c κs = search needs
 
 add-i : tie.Need-add-i Inv-loop μ-loop
 add-i c = search needs
@@ -37,8 +37,8 @@ loop-again : tie.Need-loop-again Inv-loop μ-loop
 loop-again c =
     let a = c .before .before .before .before .args in
     let l = c .before .before .loop in
-    let e : 64 * (l .i + 1) ≡ 64 * l .i + 64 = omega arith in
-    (search needs, rw e (more-join (a .t .now) (a .from) (64 * l .i) 64 (omega arith) (l .inv .1) (c .join-sixty-four .ensures)))
+    let e : 128 * (l .i + 1) ≡ 128 * l .i + 128 = omega arith in
+    (search needs, rw e (more-join (a .t .now) (a .from) (128 * l .i) 128 (omega arith) (l .inv .1) (c .join-turn .ensures)))
 
 returns : tie.Need-returns Inv-loop μ-loop
 returns c =
@@ -52,9 +52,9 @@ join-turns-spec =
     Inv-loop
     μ-loop
     loop-holds
-    mul-join-sixty-four
-    add-join-sixty-four
-    join-sixty-four-requires
+    mul-join-turn
+    add-join-turn
+    join-turn-requires
     add-i
     loop-less
     loop-again
