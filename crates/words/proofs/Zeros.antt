@@ -40,7 +40,7 @@ module _ (ws : List ℕ) (from : ℕ) where
       let l : n ≤ length (drop from ws) = simp length-drop (omega arith) in
       rw (← drop-drop n from ws) (sym (drop-take n m (drop from ws) l) ∙ ap (drop n) z ∙ drop-zeros n m)
 
-  pub both-tell : {a b : ℕ} (n m : ℕ) → from + n ≤ length ws → Tells ws from n a → Tells ws (from + n) m b
+  both-tell : {a b : ℕ} (n m : ℕ) → from + n ≤ length ws → Tells ws from n a → Tells ws (from + n) m b
       → Tells ws from (n + m) (bitOr a b)
   both-tell {a} {b} n m h t u = record {
     words-zero = λ e. let o = or-zero a b e in zeros-both n m (t .words-zero (o .0)) (u .words-zero (o .1));
@@ -89,10 +89,10 @@ module _ (ws : List ℕ) (from : ℕ) where
   all-words : take (length ws - from) (drop from ws) ≡ drop from ws
   all-words = rw (← length-drop from ws) (take-length (drop from ws))
 
-  pub all-zero : Zeros ws from (length ws - from) → ZeroFrom ws from
+  all-zero : Zeros ws from (length ws - from) → ZeroFrom ws from
   all-zero z = sym all-words ∙ z
 
-  pub zero-all : ZeroFrom ws from → Zeros ws from (length ws - from)
+  zero-all : ZeroFrom ws from → Zeros ws from (length ws - from)
   zero-all z = all-words ∙ z
 
   -- n of them joined in four words, those behind in one

@@ -1,6 +1,5 @@
 -- `words::join_turn` meets its contract.
 -- Assumes nothing.
-use Prim.Native.Nat.{_+_}
 use native.Mathlib.Omega.{arith}
 use Rattle.words.proofs.Zeros.{more-join}
 use borrow.Author.Needs.{needs}
