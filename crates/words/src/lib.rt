@@ -247,7 +247,7 @@ fn join_fours(seen: Four, t: &[u64], from: usize, fours: usize) -> Four
     all
 }
 
-// All words from `from` on joined to one, one by one: there are fewer than four.
+// All words from `from` on joined to one, one by one: there are fewer than four, and in a table none.
 fn joined_from(t: &[u64], from: usize) -> u64
     requires { ⌜ from ≤ length (now t) ⌝ }
     ensures { λ seen. ⌜ Tells (now (t .entry)) from (length (now (t .entry)) - from) seen ⌝ }
@@ -261,8 +261,8 @@ fn joined_from(t: &[u64], from: usize) -> u64
     seen
 }
 
-// Whether all words from `from` on are zero: one look at all of them joined, without a branch for each. Mostly there are
-// none.
+// Whether all words from `from` on are zero: one look at all of them joined, without a branch for each. Behind a full
+// table's mappings there are none.
 pub fn are_zero_from(t: &[u64], from: usize) -> bool
     requires { ⌜ from ≤ length (now t) ⌝ }
     ensures { λ b. ⌜ (b ≡ true → ZeroFrom (now (t .entry)) from) × (ZeroFrom (now (t .entry)) from → b ≡ true) ⌝ }
