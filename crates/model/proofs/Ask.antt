@@ -1,14 +1,16 @@
 -- A request may be asked of a space exactly if each of its pieces may, the pieces being those at ascending addresses.
 -- Assumes nothing.
 use mathlib.Core.Path.{_≡_, refl, subst}
+use mathlib.Core.Logic.{inl, inr}
 use mathlib.Core.List.{List, [], _∷_}
 use Prim.Native.Nat.{ℕ, zero, suc, _+_, _-_, _≤_, _<_, min, max}
 use native.Mathlib.Omega.{arith}
+use lib.Dec.{eqb, eqb→eq}
 use Rattle.model.specs.Prelude.{Space, Request}
 use Rattle.model.specs.Rules.{stop, objectTests, offsetTests}
 use Rattle.model.specs.Exactly.{Each, Multiple}
 use Rattle.model.specs.Demand3.{piece, pieceOffset}
-use Rattle.model.proofs.Tests.{Alls, tests}
+use Rattle.model.proofs.Tests.{Alls, tests, or-cases, or-left, eq→eqb}
 use Rattle.model.proofs.Groups.{FormPassed, RequestPassed}
 use Rattle.model.proofs.Cuts.{piecesFrom, pieces, CutsFrom, Cuts}
 use Rattle.model.proofs.Pieces.{cuts-end}
@@ -17,7 +19,7 @@ use Rattle.model.proofs.Pieces.{cuts-end}
 abbrev KeepsOff : Space → ℕ → ℕ → Type 0
 KeepsOff s a b = min b (s .reserved .start + s .reserved .size) ≤ max a (s .reserved .start)
 
--- r passes 13, 14 and 6 to 10
+-- r is without the flag, and passes 13, 14 and 6 to 10
 pub record Asked (s : Space) (r : Request) : Type 0 where
   pub form : (r .op ≤ 1) × (r .flags ≡ 0) × (r .pad ≡ 0)
   pub address-multiple : Multiple (r .address)
@@ -30,9 +32,10 @@ pub record Asked (s : Space) (r : Request) : Type 0 where
   pub object-fits : Alls (objectTests (r .op) r)
   pub offset-fits : Alls (offsetTests (r .op) r)
 
-pub asked-by : {s : Space} {r : Request} → FormPassed r → RequestPassed s r → Asked s r
-asked-by k h = record {
-  form = omega (tests, k .op, k .flags);
+-- a request without the flag that is served
+pub asked-by : {s : Space} {served : ℕ} {r : Request} → (r .flags ≡ served → r .flags ≡ 0) → FormPassed served r → RequestPassed s r → Asked s r
+asked-by {s} {served} {r} plain k h = record {
+  form = (omega (tests, k .op), no-flags, omega (tests, k .flags .1));
   address-multiple = omega (tests, h .alignment);
   size-multiple = omega (tests, h .alignment);
   offset-multiple = omega (tests, h .alignment);
@@ -40,21 +43,33 @@ asked-by k h = record {
   low = omega (tests, h .range);
   high = omega (tests, h .range);
   unreserved = omega (tests, h .reservation);
-  object-fits = h .object;
+  object-fits = subst (λ (n : ℕ). Alls (objectTests n r)) op (h .object);
   offset-fits = h .offset;
 }
+  where
+    no-flags : r .flags ≡ 0
+    no-flags = elim (or-cases (eqb (r .flags) 0) (eqb (r .flags) served) (k .flags .0)) [ inl e ↦ eqb→eq _ 0 e | inr e ↦ plain (eqb→eq _ served e) ]
 
-pub by-asked : {s : Space} {r : Request} → Asked s r → FormPassed r × RequestPassed s r
-by-asked a = (
-  record { op = omega (tests, a .form); flags = omega (tests, a .form) },
+    op : r .op + r .flags ≡ r .op
+    op = omega (arith, no-flags)
+
+pub by-asked : {s : Space} {r : Request} → Asked s r → (served : ℕ) → FormPassed served r × RequestPassed s r
+by-asked {s} {r} a served = (
+  record {
+    op = omega (tests, a .form);
+    flags = (or-left (eqb (r .flags) 0) (eqb (r .flags) served) (eq→eqb _ 0 (a .form .1)), (omega (tests, a .form), tt));
+  },
   record {
     alignment = omega (tests, a);
     range = omega (tests, a .low, a .high);
     reservation = omega (tests, a .unreserved);
-    object = a .object-fits;
+    object = subst (λ (n : ℕ). Alls (objectTests n r)) op (a .object-fits);
     offset = a .offset-fits;
   },
 )
+  where
+    op : r .op ≡ r .op + r .flags
+    op = omega (arith, a .form)
 
 -- ── by the op ──
 

@@ -20,6 +20,7 @@ pub mod Chain
 pub mod Table
 pub mod Store
 pub mod Zeros
+pub mod Ranges
 pub mod Cuts
 pub mod Pieces
 pub mod Sort

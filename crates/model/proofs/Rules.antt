@@ -1,6 +1,7 @@
 -- The tests of each rule hold exactly if the rule in words is kept.
 -- Assumes nothing.
 use mathlib.Core.Path.{_≡_, refl}
+use mathlib.Core.Logic.{_⊎_, inl, inr}
 use mathlib.Core.Bool.{Bool, true, false}
 use Prim.Native.Nat.{ℕ, zero, suc, _+_, _^_, _≤_, _<_, min, max}
 use native.Mathlib.Omega.{arith}
@@ -8,7 +9,7 @@ use lib.Dec.{leb}
 use borrow.Author.Tests.{leb-true, leb-false}
 use Rattle.model.specs.Prelude.{Space, Mapping, Request}
 use Rattle.model.specs.Rules.{reservedTests, spaceTests, mappingTests, objectTests, offsetTests}
-use Rattle.model.specs.Exactly.{ShareByte, Inside, SpaceRules, MappingRules}
+use Rattle.model.specs.Exactly.{ShareByte, Inside, SpaceRules, MappingRules, NoObject}
 use Rattle.model.proofs.Tests.{tests, Alls, Says}
 
 -- ── ranges that share no byte ──
@@ -75,15 +76,32 @@ mapping-says s m = (
 
 -- ── a request ──
 
-abbrev ObjectRules : Request → Type 0
-ObjectRules r = (r .op ≡ 0 → (1 ≤ r .object) × (r .object < 2 ^ 32)) × (r .op ≡ 1 → (r .object ≡ 0) × (r .offset ≡ 0))
+-- the flags that row 14 lets through
+abbrev pub Flags : Request → Type 0
+Flags r = (r .flags ≡ 0) ⊎ (r .flags ≡ 256)
 
-pub object-says : (r : Request) → r .op < 2 → Says (objectTests (r .op) r) (ObjectRules r)
-object-says r = go (r .op) refl
+abbrev ObjectRules : Request → Type 0
+ObjectRules r = (r .op ≡ 0 → r .flags ≡ 0 → (1 ≤ r .object) × (r .object < 2 ^ 32)) × (r .op ≡ 1 → NoObject r) × (r .flags ≡ 256 → NoObject r)
+
+pub object-says : (r : Request) → r .op < 2 → Flags r → Says (objectTests (r .op + r .flags) r) (ObjectRules r)
+object-says r op flags = go (r .op + r .flags) refl
   where
-    go : (n : ℕ) → r .op ≡ n → r .op < 2 → Says (objectTests n r) (ObjectRules r)
-    go zero e h = (λ t. (λ _. (omega tests, omega tests), λ o. absurd (omega arith)), λ k. omega (tests, k .0 e))
-    go (suc n) e h = (λ t. (λ o. absurd (omega arith), λ _. (omega tests, omega tests)), λ k. omega (tests, k .1 (omega arith)))
+    go : (n : ℕ) → r .op + r .flags ≡ n → Says (objectTests n r) (ObjectRules r)
+    go zero e = (
+      λ h. (λ _ _. (omega tests, omega tests), λ o. absurd (omega arith), λ f. absurd (omega arith)),
+      λ k. omega (tests, k .0 (omega arith) (omega arith)),
+    )
+    go (suc n) e = (
+      λ h. (λ o f. absurd (omega arith), λ _. (omega tests, omega tests), λ _. (omega tests, omega tests)),
+      λ k. none k flags,
+    )
+      where
+        facts : NoObject r → Alls (objectTests (suc n) r)
+        facts h = omega tests
+
+        none : ObjectRules r → Flags r → Alls (objectTests (suc n) r)
+        none k (inl f) = facts (k .1 (omega arith))
+        none k (inr f) = facts (k .2 f)
 
 pub offset-says : (r : Request) → Says (offsetTests (r .op) r) (r .op ≡ 0 → r .offset + r .size ≤ 2 ^ 48)
 offset-says r = go (r .op) refl

@@ -1,4 +1,4 @@
--- Row 17: the words behind the last mapping are zero, as tests, as a list of zeros and place by place.
+-- The words behind the last mapping or range are zero, as tests, as a list of zeros and place by place.
 -- Assumes nothing.
 use mathlib.Core.Path.{_≡_, refl, ap, ap₂, _∙_}
 use mathlib.Core.List.{List, [], _∷_}
@@ -17,15 +17,15 @@ pub zeros-tests : (n : ℕ) → Alls (zeroTests (replicate n 0))
 zeros-tests zero = tt
 zeros-tests (suc n) = (tt, zeros-tests n)
 
--- the row passes exactly if those words are zeros
+-- the tests of the words from place n on hold exactly if those words are zeros
+pub zeros-from : (n : ℕ) (ws : List ℕ) → Says (zeroTests (drop n ws)) (drop n ws ≡ replicate (length ws - n) 0)
+zeros-from n ws = (λ h. tests-zeros _ h ∙ ap (λ (k : ℕ). replicate k 0) (length-drop n ws), λ z. rw z (zeros-tests (length ws - n)))
+
 pub stale-zeros : (t : Table) → Says (staleRow t .tests) (drop (4 * t .count) (t .words) ≡ replicate (length (t .words) - 4 * t .count) 0)
-stale-zeros t = (
-  λ h. tests-zeros _ h ∙ ap (λ (n : ℕ). replicate n 0) (length-drop (4 * t .count) (t .words)),
-  λ z. rw z (zeros-tests (length (t .words) - 4 * t .count)),
-)
+stale-zeros t = zeros-from (4 * t .count) (t .words)
 
 -- place by place, from place n on
-abbrev ZeroPlaces : ℕ → List ℕ → Type 0
+abbrev pub ZeroPlaces : ℕ → List ℕ → Type 0
 ZeroPlaces n ws = (i : ℕ) → n ≤ i → i < length ws → getD ws i 0 ≡ 0
 
 tests-places : (n : ℕ) (ws : List ℕ) → Alls (zeroTests (drop n ws)) → ZeroPlaces n ws
@@ -43,5 +43,8 @@ places-tests zero (x ∷ xs) z =
     (omega tests, places-tests zero xs (λ i h k. z (suc i) (omega tests) (omega tests)))
 places-tests (suc n) (x ∷ xs) z = places-tests n xs (λ i h k. z (suc i) (omega tests) (omega tests))
 
+pub places-say : (n : ℕ) (ws : List ℕ) → Says (zeroTests (drop n ws)) (ZeroPlaces n ws)
+places-say n ws = (tests-places n ws, places-tests n ws)
+
 pub stale-says : (t : Table) → Says (staleRow t .tests) (ZerosBehind t)
-stale-says t = (tests-places _ (t .words), places-tests _ (t .words))
+stale-says t = places-say _ (t .words)

@@ -1,8 +1,9 @@
 -- How a request cuts the old mappings (document 01), what it hands the driver for them, what a byte address shows, and
 -- for how many bytes: of any list of mappings.
-use Rattle.model.specs.Prelude.{Bool, false, List, [], _∷_, _++_, map, ℕ, zero, suc, _+_, _-_, min, max, leb, ltb, eqb, ℤ, pos, negsuc, subℕ, Space, Mapping, Request, Rests, Lower, Upper, Both, Operation, Map, Remap, Unmap, Shown, Nothing, Object, Seen}
+use Rattle.model.specs.Prelude.{Bool, false, List, [], _∷_, _++_, map, ℕ, zero, suc, _+_, _-_, min, max, leb, ltb, eqb, ℤ, pos, negsuc, subℕ, Range, Space, Mapping, Request, Rests, Lower, Upper, Both, Operation, Map, Remap, Unmap, Shown, Object, Seen}
 use Rattle.model.specs.Rows.{all, choose}
 use Rattle.model.specs.Rules.{end, stop, apart}
+use Rattle.model.specs.Ranges.{bare, nearer, nextEdge}
 
 -- the part under the address a (document 01: lower rest); size 0 where there is none
 abbrev pub lowerPart : ℕ → Mapping → Mapping
@@ -114,15 +115,13 @@ rests (Unmap keep m) = []
 abbrev pub insideTests : Mapping → ℕ → List Bool
 insideTests m x = leb (m .address) x ∷ ltb x (end m) ∷ []
 
-unfoldable pub translate : List Mapping → ℕ → Shown
-translate [] x = Nothing
-translate (m ∷ ms) x = choose (all (insideTests m x)) (Object (m .object) (m .offset + (x - m .address))) (translate ms x)
+-- an address in no mapping shows what stands beside the table: `off`
+unfoldable pub translate : Shown → List Mapping → ℕ → Shown
+translate off [] x = off
+translate off (m ∷ ms) x = choose (all (insideTests m x)) (Object (m .object) (m .offset + (x - m .address))) (translate off ms x)
 
--- document 02: the address up to which the answer at x goes on: its mapping's end; for nothing the next mapping's
+-- document 02: the address up to which the answer at x goes on: its mapping's end; off mappings the next mapping's
 -- address, or the edge `to` if that is nearer
-abbrev pub nearer : ℕ → ℕ → ℕ → ℕ
-nearer x a b = choose (ltb x a) (min a b) b
-
 unfoldable pub runEnd : ℕ → List Mapping → ℕ → ℕ
 runEnd to [] x = to
 runEnd to (m ∷ ms) x = choose (all (insideTests m x)) (end m) (nearer x (m .address) (runEnd to ms x))
@@ -134,6 +133,7 @@ inSpaceTests s x = leb (s .start) x ∷ ltb x (s .start + s .size) ∷ []
 abbrev pub bytesTo : Space → ℕ → ℕ → ℕ
 bytesTo s to x = choose (all (inSpaceTests s x)) (to - x) 0
 
--- what a look-up sees at x
-abbrev pub see : Space → List Mapping → ℕ → Seen
-see s ms x = record { shown = translate ms x; bytes = bytesTo s (runEnd (s .start + s .size) ms x) x }
+-- what a look-up sees at x, beside these sparse ranges: off mappings sparse or nothing, up to the next edge
+abbrev pub see : Space → List Range → List Mapping → ℕ → Seen
+see s ys ms x =
+    record { shown = translate (bare ys x) ms x; bytes = bytesTo s (runEnd (nextEdge (s .start + s .size) ys x) ms x) x }

@@ -1,7 +1,7 @@
 -- Demand 3: a request in pieces, and a series of calls for them (document 01: A request in pieces).
 use Rattle.model.specs.Prelude.{_≡_, _⊎_, List, [], _∷_, _++_, map, ℕ, zero, suc, _+_, _-_, _≤_, _<_, length, Space, Mapping, Request, Grant}
-use Rattle.model.specs.Calls.{Reply, answered, stop, Table, written, mappingOf, Asking, asked, bind, tableAfter}
-use Rattle.model.specs.Exactly.{Each, _∈_, _⊆_, Ordered, Multiple, Inside, WellFormed, refusal}
+use Rattle.model.specs.Calls.{Reply, answered, stop, Table, written, mappingOf, Asking, asked, Lent, bind, lentAfter}
+use Rattle.model.specs.Exactly.{Each, _∈_, _⊆_, Ordered, Multiple, Inside, Unflagged, WellFormed, refusal}
 
 -- document 01: Pieces. A map piece's offset moves along; an unmap piece's is the request's own
 abbrev pub pieceOffset : ℕ → Request → ℕ → ℕ
@@ -47,11 +47,11 @@ pub record Call : Type 0 where
 abbrev pub Asks : ℕ → Request → Call → Type 0
 Asks n p c = WellFormed (c .asking) × (asked (c .asking) ≡ p) × (length (c .operations) ≡ n)
 
-abbrev pub answerTo : Space → Table → Call → Reply Grant
-answerTo s t c = bind s t (c .operations) (c .asking) .answer
+abbrev pub answerTo : Space → Lent → Call → Reply Grant
+answerTo s l c = bind s l (c .operations) (c .asking) .answer
 
-abbrev pub leftBy : Space → Table → Call → Table
-leftBy s t c = tableAfter t (bind s t (c .operations) (c .asking))
+abbrev pub leftBy : Space → Lent → Call → Lent
+leftBy s l c = lentAfter l (bind s l (c .operations) (c .asking))
 
 abbrev pub IsGrant : Reply Grant → Type 0
 IsGrant a = (g : Grant) × (a ≡ answered g)
@@ -63,26 +63,30 @@ pub record Holds (t : Table) (ms : List Mapping) (u : Table) : Type 0 where
   pub count : u .count ≡ length ms
 
 -- document 01: What is equal. The pieces, ascending, stand in place of the uncut map's one new record
-pub record Replaced (t : Table) (r : Request) (ps : List Request) (uncut series : Table) : Type 0 where
+pub record Replaced (l : Lent) (r : Request) (ps : List Request) (uncut series : Lent) : Type 0 where
   pub before : List Mapping
   pub behind : List Mapping
   pub sorted : List Request
   pub ascending : Ordered (λ p q. stop p ≤ q .address) sorted
   pub members : sorted ⊆ ps × ps ⊆ sorted
-  pub uncut-table : Holds t (before ++ (mappingOf r ∷ behind)) uncut
-  pub series-table : Holds t (before ++ (map mappingOf sorted ++ behind)) series
-  pub counts : series .count + 1 ≡ uncut .count + length ps
+  pub uncut-table : Holds (l .table) (before ++ (mappingOf r ∷ behind)) (uncut .table)
+  pub series-table : Holds (l .table) (before ++ (map mappingOf sorted ++ behind)) (series .table)
+  pub lists : (uncut .ranges ≡ l .ranges) × (series .ranges ≡ l .ranges)
+  pub counts : series .table .count + 1 ≡ uncut .table .count + length ps
 
--- any table t; a request r cut into ps; c, which asks for r on t; a series, each call of it for one of the pieces
+-- any table and list l; a request r without the sparse flag, cut into ps; c, which asks for r on l; a series, each call
+-- of it for one of the pieces
 abbrev pub Demand3 : Type 0
-Demand3 = (s : Space) (t : Table) (r : Request) (ps : List Request) (c : Call) (series : List Call)
+Demand3 = (s : Space) (l : Lent) (r : Request) (ps : List Request) (c : Call) (series : List Call)
+    → Unflagged r
     → Pieces r ps
     → Asks (length (c .operations)) r c
     → Each (λ d. (p : Request) × p ∈ ps × Asks (length (c .operations)) p d) series
-    -- if every piece is granted at least once, the uncut request is granted, and the series leaves the same table
-    → (Each (λ p. Somewhere (leftBy s) (λ u d. (asked (d .asking) ≡ p) × IsGrant (answerTo s u d)) t series) ps
-    → IsGrant (answerTo s t c)
-    × (r .op ≡ 0 → Replaced t r ps (leftBy s t c) (final (leftBy s) t series))
-    × (r .op ≡ 1 → final (leftBy s) t series ≡ leftBy s t c))
+    -- if every piece is granted at least once, the uncut request is granted, and the series leaves the same table and
+    -- list
+    → (Each (λ p. Somewhere (leftBy s) (λ k d. (asked (d .asking) ≡ p) × IsGrant (answerTo s k d)) l series) ps
+    → IsGrant (answerTo s l c)
+    × (r .op ≡ 0 → Replaced l r ps (leftBy s l c) (final (leftBy s) l series))
+    × (r .op ≡ 1 → final (leftBy s) l series ≡ leftBy s l c))
     -- if the uncut request is granted, each answer is a grant or want of table room
-    × (IsGrant (answerTo s t c) → Everywhere (leftBy s) (λ u d. IsGrant (answerTo s u d) ⊎ (answerTo s u d ≡ refusal 11)) t series)
+    × (IsGrant (answerTo s l c) → Everywhere (leftBy s) (λ k d. IsGrant (answerTo s k d) ⊎ (answerTo s k d ≡ refusal 11)) l series)

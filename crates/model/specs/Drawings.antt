@@ -15,14 +15,15 @@ abbrev pub filled : ℕ → ℕ → List (List ℕ) → List ℕ
 filled x n [] = replicate n x
 filled x n (ws ∷ wss) = ws ++ filled x (n - length ws) wss
 
--- in a space of 16 pages, with nines in the operation slice
+-- in a space of 16 pages, beside a list of length 0, with nines in the operation slice
 abbrev pub Computes : ℕ → List (List ℕ) → Asking → Reply Grant → List (List ℕ) → List (List ℕ) → Type 0
 Computes room old q a os new =
-    bind (spaceOf 0 65536 0 0) (record { words = filled 0 (4 * room) old; count = length old }) (replicate (14 * (room + 1)) 9) q
-    ≡ record { answer = a; table = filled 0 (4 * room) new; operations = filled 9 (14 * (room + 1)) os }
+    bind (spaceOf 0 65536 0 0) (record { table = record { words = filled 0 (4 * room) old; count = length old }; ranges = record { words = []; count = 0 } })
+    (replicate (14 * (room + 1)) 9) q
+    ≡ record { answer = a; table = filled 0 (4 * room) new; ranges = []; operations = filled 9 (14 * (room + 1)) os }
 
 abbrev pub Drawn : Drawing → Type 0
-Drawn (granted old q os new) = Computes 8 old q (answered (record { operations = length os; count = length new })) os new
+Drawn (granted old q os new) = Computes 8 old q (answered (record { operations = length os; count = length new; ranges = 0 })) os new
 Drawn (refusing room old q n) = Computes room old q (refusal n) [] old
 
 -- in pages: [a, b) o@f; a request with op 0 maps, with op 1 unmaps

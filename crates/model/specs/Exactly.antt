@@ -1,7 +1,7 @@
 -- The papers' rules in words; their numbers are written out, but for the most mappings of a table. A call gives a
 -- line's answer exactly if its rule is broken and no line's above it.
-use Rattle.model.specs.Prelude.{_≡_, _⊎_, _↔_, List, [], _∷_, flatMap, List·Memᴰ, ℕ, suc, _+_, _*_, _/_, _%_, _^_, _≤_, _<_, pos, _-ℤ_, length, getD, take, replicate, Space, Mapping, Request, Seen, Grant}
-use Rattle.model.specs.Calls.{Reply, refused, answered, mostMappings, end, stop, requestOf, recordOf, Table, mappings, written, badPlace, operations, old, rests, see, Asking, numbers, bytes, asked, grantOf, bind, lookup, checkRequest, verdictReply, decodedReply, answerReply, foundReply}
+use Rattle.model.specs.Prelude.{_≡_, _⊎_, _↔_, List, [], _∷_, flatMap, List·Memᴰ, ℕ, suc, _+_, _*_, _/_, _%_, _^_, _≤_, _<_, pos, _-ℤ_, length, getD, take, replicate, Range, Space, Mapping, Request, Seen, Grant}
+use Rattle.model.specs.Calls.{Reply, refused, answered, mostMappings, end, stop, requestOf, recordOf, Table, mappings, written, badPlace, RangeList, ranges, rangeEnd, listWritten, operations, old, rests, Asking, numbers, bytes, asked, Lent, rangeOf, purpose, grantFor, bind, seeIn, lookup, checkRequest, verdictReply, decodedReply, answerReply, foundReply}
 
 infix 40 _∈_ _⊆_
 abbrev pub Each : {A : Type 0} → (A → Type 0) → List A → Type 0
@@ -51,6 +51,22 @@ Ascends ms = Ordered (λ m n. end m ≤ n .address) ms
 abbrev pub TableRules : Space → List Mapping → Type 0
 TableRules s ms = Each (MappingRules s) ms × Ascends ms
 
+-- document 02: a sparse range; a list of them, in words of even length up to 128 with a count that they can hold: each
+-- ends at or before the next one's start, and every word behind the last is zero
+pub record RangeRules (s : Space) (x : Range) : Type 0 where
+  pub multiples : Multiple (x .start) × Multiple (x .size)
+  pub not-empty : 0 < x .size
+  pub within : Inside (x .start) (rangeEnd x) (s .start) (s .start + s .size)
+  pub unreserved : ShareByte (x .start) (rangeEnd x) (s .reserved .start) (s .reserved .start + s .reserved .size) → ⊥
+
+pub record ListRules (s : Space) (l : RangeList) : Type 0 where
+  pub even : length (l .words) % 2 ≡ 0
+  pub length-most : length (l .words) ≤ 128
+  pub held : l .count ≤ length (l .words) / 2
+  pub each-range : Each (RangeRules s) (ranges l)
+  pub ascends : Ordered (λ x y. rangeEnd x ≤ y .start) (ranges l)
+  pub zeros : (i : ℕ) → 2 * l .count ≤ i → i < length (l .words) → getD (l .words) i 0 ≡ 0
+
 -- document 02: the objects agree, and the displacements, the offset less the address, which may be below zero
 abbrev pub Agree : Mapping → Mapping → Type 0
 Agree m n = (m .object ≡ n .object) × (pos (m .offset) -ℤ pos (m .address) ≡ pos (n .offset) -ℤ pos (n .address))
@@ -65,16 +81,21 @@ abbrev pub Gives : {A : Type 0} → RefusalTable A → A → Type 0
 Gives (line n Rule rest) a = ((Rule → ⊥) × (a ≡ n)) ⊎ (Rule × Gives rest a)
 Gives (otherwise n) a = a ≡ n
 
--- 13 and 14; 6 to 10. `refuse` is how the call answers a number
+-- 13 and 14; 6 to 10. `refuse` is how the call answers a number. Flag 256 is let through; such a request has no object
+-- and no offset
 abbrev pub formLines : {A : Type 0} → (ℕ → A) → Request → RefusalTable A → RefusalTable A
-formLines refuse r rest = line (refuse 13) (r .op < 2) (line (refuse 14) ((r .flags ≡ 0) × (r .pad ≡ 0)) rest)
+formLines refuse r rest =
+    line (refuse 13) (r .op < 2) (line (refuse 14) (((r .flags ≡ 0) ⊎ (r .flags ≡ 256)) × (r .pad ≡ 0)) rest)
+
+abbrev pub NoObject : Request → Type 0
+NoObject r = (r .object ≡ 0) × (r .offset ≡ 0)
 
 abbrev pub requestLines : {A : Type 0} → (ℕ → A) → Space → Request → RefusalTable A → RefusalTable A
 requestLines refuse s r rest =
     line (refuse 6) (Multiple (r .address) × Multiple (r .size) × Multiple (r .offset) × (0 < r .size))
     (line (refuse 7) (Inside (r .address) (stop r) (s .start) (s .start + s .size))
     (line (refuse 8) (ShareByte (r .address) (stop r) (s .reserved .start) (s .reserved .start + s .reserved .size) → ⊥)
-    (line (refuse 9) ((r .op ≡ 0 → (1 ≤ r .object) × (r .object < 2 ^ 32)) × (r .op ≡ 1 → (r .object ≡ 0) × (r .offset ≡ 0)))
+    (line (refuse 9) ((r .op ≡ 0 → r .flags ≡ 0 → (1 ≤ r .object) × (r .object < 2 ^ 32)) × (r .op ≡ 1 → NoObject r) × (r .flags ≡ 256 → NoObject r))
     (line (refuse 10) (r .op ≡ 0 → r .offset + r .size ≤ 2 ^ 48) rest))))
 
 abbrev pub checkRefusals : List ℕ → Space → RefusalTable ℕ
@@ -84,6 +105,10 @@ checkRefusals bs s =
 -- a refusal at place 0
 abbrev pub refusal : {A : Type 0} → ℕ → Reply A
 refusal n = refused n 0
+
+-- a request without the sparse flag
+abbrev pub Unflagged : Request → Type 0
+Unflagged r = r .flags ≡ 256 → ⊥
 
 -- number 12: a record is 40 bytes long
 abbrev pub WellFormed : Asking → Type 0
@@ -108,6 +133,11 @@ tableLines s between t rest =
     (line (refusal 2) ((0 < length (t .words)) × (length (t .words) % 4 ≡ 0) × (length (t .words) ≤ 4 * mostMappings))
     (between (contentLines s t rest)))
 
+-- and 18: the lines of every call on what is lent
+abbrev pub lentLines : {A : Type 0} → Space → (RefusalTable (Reply A) → RefusalTable (Reply A)) → Lent
+    → RefusalTable (Reply A) → RefusalTable (Reply A)
+lentLines s between l rest = tableLines s between (l .table) (line (refusal 18) (ListRules s (l .ranges)) rest)
+
 -- 3, with n words lent for operations
 abbrev pub operationsLine : {A : Type 0} → ℕ → Table → RefusalTable (Reply A) → RefusalTable (Reply A)
 operationsLine n t rest = line (refusal 3) ((length (t .words) / 4 + 1) * 14 ≤ n) rest
@@ -119,42 +149,63 @@ pub record RoomRule (r : Request) (t : Table) : Type 0 where
   pub for-unmap : r .op ≡ 1 → t .count + length (flatMap rests (operations r (mappings t)))
       ≤ length (t .words) / 4 + length (flatMap old (operations r (mappings t)))
 
-abbrev pub bindRefusals : Space → Table → ℕ → Asking → RefusalTable (Reply Grant)
-bindRefusals s t n q =
+-- 19: a map with the flag shares no byte with a range. 20: an unmap with the flag names a range, exactly, and no mapping
+-- shares a byte with it. 11: the table has room, for a request without the flag; the list, for a map with it
+abbrev pub OverlapRule : Request → Lent → Type 0
+OverlapRule r l = r .flags ≡ 256 → r .op ≡ 0
+    → Each (λ x. ShareByte (x .start) (rangeEnd x) (r .address) (stop r) → ⊥) (ranges (l .ranges))
+
+abbrev pub RemovalRule : Request → Lent → Type 0
+RemovalRule r l = r .flags ≡ 256 → r .op ≡ 1
+    → (rangeOf r ∈ ranges (l .ranges)) × Each (λ m. ShareByte (m .address) (end m) (r .address) (stop r) → ⊥) (mappings (l .table))
+
+abbrev pub RoomRules : Request → Lent → Type 0
+RoomRules r l = (r .flags ≡ 0 → RoomRule r (l .table)) × (r .flags ≡ 256 → r .op ≡ 0 → l .ranges .count < length (l .ranges .words) / 2)
+
+abbrev pub bindRefusals : Space → Lent → ℕ → Asking → RefusalTable (Reply Grant)
+bindRefusals s l n q =
     line (refusal 12) (WellFormed q)
     (formLines refusal (asked q)
-    (tableLines s (operationsLine n t) t
+    (lentLines s (operationsLine n (l .table)) l
     (requestLines refusal s (asked q)
-    (line (refusal 11) (RoomRule (asked q) t)
-    (otherwise (answered (grantOf (asked q) (mappings t))))))))
+    (line (refusal 19) (OverlapRule (asked q) l)
+    (line (refusal 20) (RemovalRule (asked q) l)
+    (line (refusal 11) (RoomRules (asked q) l)
+    (otherwise (answered (grantFor (purpose (asked q)) (asked q) l)))))))))
 
-abbrev pub lookupRefusals : Space → Table → ℕ → RefusalTable (Reply Seen)
-lookupRefusals s t x = tableLines s (λ rest. rest) t (otherwise (answered (see s (mappings t) x)))
+abbrev pub lookupRefusals : Space → Lent → ℕ → RefusalTable (Reply Seen)
+lookupRefusals s l x = lentLines s (λ rest. rest) l (otherwise (answered (seeIn s l x)))
 
 -- an answer is a exactly if the table gives a
 pub record Exactly : Type 0 where
   pub of-check : (bs : List ℕ) (s : Space) (n : ℕ) → (checkRequest bs s ≡ n) ↔ Gives (checkRefusals bs s) n
-  pub of-bind : (s : Space) (t : Table) (os : List ℕ) (q : Asking) (a : Reply Grant) → (bind s t os q .answer ≡ a) ↔ Gives (bindRefusals s t (length os) q) a
-  pub of-lookup : (s : Space) (t : Table) (x : ℕ) (a : Reply Seen) → (lookup s t x ≡ a) ↔ Gives (lookupRefusals s t x) a
+  pub of-bind : (s : Space) (l : Lent) (os : List ℕ) (q : Asking) (a : Reply Grant) → (bind s l os q .answer ≡ a) ↔ Gives (bindRefusals s l (length os) q) a
+  pub of-lookup : (s : Space) (l : Lent) (x : ℕ) (a : Reply Seen) → (lookup s l x ≡ a) ↔ Gives (lookupRefusals s l x) a
   -- the place of number 5 is the lowest: the mappings before it keep the rules, and with it no more
   pub lowest : (s : Space) (ms : List Mapping) (p : ℕ) → (TableRules s ms → ⊥) → badPlace s 0 ms ≡ p
       → (p < length ms) × TableRules s (take p ms) × (TableRules s (take (suc p) ms) → ⊥)
   -- a refusal changes no lent word
-  pub unchanged : (s : Space) (t : Table) (os : List ℕ) (q : Asking) (n p : ℕ) → bind s t os q .answer ≡ refused n p
-      → (bind s t os q .table ≡ t .words) × (bind s t os q .operations ≡ os)
-  pub lookup-only : (s : Space) (t : Table) (x n p : ℕ) → lookup s t x ≡ refused n p → n ∈ (1 ∷ 2 ∷ 4 ∷ 5 ∷ 17 ∷ [])
+  pub unchanged : (s : Space) (l : Lent) (os : List ℕ) (q : Asking) (n p : ℕ) → bind s l os q .answer ≡ refused n p
+      → (bind s l os q .table ≡ l .table .words) × (bind s l os q .ranges ≡ l .ranges .words) × (bind s l os q .operations ≡ os)
+  pub lookup-only : (s : Space) (l : Lent) (x n p : ℕ) → lookup s l x ≡ refused n p → n ∈ (1 ∷ 2 ∷ 4 ∷ 5 ∷ 17 ∷ 18 ∷ [])
 
--- a call takes the table: a look-up in it is answered, or a request on it granted
-pub data Taken (t : Table) : Type 0 where
-  seen : (s : Space) (x : ℕ) (v : Seen) → lookup s t x ≡ answered v → Taken t
-  granted : (s : Space) (os : List ℕ) (q : Asking) (g : Grant) → bind s t os q .answer ≡ answered g → Taken t
+-- a call takes what is lent: a look-up in it is answered, or a request on it granted
+pub data Taken (l : Lent) : Type 0 where
+  seen : (s : Space) (x : ℕ) (v : Seen) → lookup s l x ≡ answered v → Taken l
+  granted : (s : Space) (os : List ℕ) (q : Asking) (g : Grant) → bind s l os q .answer ≡ answered g → Taken l
 
--- document 02: what 17 is for. Such a table has its mappings and zeros behind them, to the last word; an empty one is
--- zeros; and its words are taken with this count alone, so that no half of a table is served
+-- document 02: what 17 is for, and the zeros behind a list. A table that is taken has its mappings and zeros behind
+-- them, to the last word; an empty one is zeros; and its words are taken with this count alone, so that no half of a
+-- table is served. So it is with a list
+pub record Whole {A : Type 0} (words : List ℕ) (count : ℕ) (held : List A) (write : ℕ → List A → List ℕ) : Type 0 where
+  pub all : words ≡ write (length words) held
+  pub empty : count ≡ 0 → words ≡ replicate (length words) 0
+
 pub record TakesWhole : Type 0 where
-  pub words : (t : Table) → Taken t → t .words ≡ written (length (t .words)) (mappings t)
-  pub empty : (t : Table) → Taken t → t .count ≡ 0 → t .words ≡ replicate (length (t .words)) 0
-  pub one-count : (t u : Table) → Taken t → Taken u → t .words ≡ u .words → t .count ≡ u .count
+  pub table : (l : Lent) → Taken l → Whole (l .table .words) (l .table .count) (mappings (l .table)) written
+  pub list : (l : Lent) → Taken l → Whole (l .ranges .words) (l .ranges .count) (ranges (l .ranges)) listWritten
+  pub one-table : (l k : Lent) → Taken l → Taken k → l .table .words ≡ k .table .words → l .table .count ≡ k .table .count
+  pub one-list : (l k : Lent) → Taken l → Taken k → l .ranges .words ≡ k .ranges .words → l .ranges .count ≡ k .ranges .count
 
 -- what comes is what was asked: a request whose numbers fit a record's fields as 40 bytes; one whose flags and pad are
 -- 0 by numbers

@@ -1,22 +1,32 @@
 -- What a grant does: demand 2 in terms of the public calls, and the operations as a driver takes them.
-use Rattle.model.specs.Prelude.{_≡_, _⊎_, _↔_, Bool, Option, none, some, Option·map, Option·bind, List, [], _∷_, _++_, flatMap, ℕ, _+_, _-_, _*_, _≤_, _<_, leb, ltb, eqb, length, getD, drop, replicate, Space, Mapping, Request, Rests, Lower, Upper, Both, Operation, Map, Remap, Unmap, Nothing, Object, Grant}
-use Rattle.model.specs.Calls.{all, choose, answered, end, stop, Table, mappings, operations, restsOf, old, rests, operationWords, translate, see, Asking, asked, bind, tableAfter, lookup, shownReply}
+use Rattle.model.specs.Prelude.{_≡_, _⊎_, _↔_, Bool, Option, none, some, Option·map, Option·bind, List, [], _∷_, _++_, flatMap, ℕ, _+_, _-_, _*_, _≤_, _<_, leb, ltb, eqb, length, getD, drop, replicate, Space, Mapping, Request, Rests, Lower, Upper, Both, Operation, Map, Remap, Unmap, Shown, Object, Grant}
+use Rattle.model.specs.Calls.{all, choose, answered, end, stop, Table, mappings, ranges, bare, operations, restsOf, old, rests, operationWords, translate, Asking, asked, Lent, bind, lentAfter, seeIn, lookup, shownReply}
 use Rattle.model.specs.Layout.{operationIn, listedOperation}
-use Rattle.model.specs.Exactly.{Each, _∈_, ShareByte, Ascends, TableRules, Agree, Pins}
+use Rattle.model.specs.Exactly.{Each, _∈_, ShareByte, Ascends, TableRules, Unflagged, Agree, Pins}
 
--- u is what the granted request r leaves of t: what byte addresses show; a valid table, zeros behind it; look-ups in it
--- are answered
-pub record Effect (s : Space) (r : Request) (t u : Table) : Type 0 where
-  pub maps : r .op ≡ 0 → (x : ℕ) → r .address ≤ x → x < stop r → translate (mappings u) x ≡ Object (r .object) (r .offset + (x - r .address))
-  pub unmaps : r .op ≡ 1 → (x : ℕ) → r .address ≤ x → x < stop r → translate (mappings u) x ≡ Nothing
-  pub elsewhere : (x : ℕ) → (x < r .address) ⊎ (stop r ≤ x) → translate (mappings u) x ≡ translate (mappings t) x
-  pub valid : TableRules s (mappings u)
-  pub zeros : (drop (4 * u .count) (u .words) ≡ replicate (length (t .words) - 4 * u .count) 0) × (length (u .words) ≡ length (t .words))
-  pub answers : (x : ℕ) → lookup s u x ≡ answered (see s (mappings u) x)
+-- what a byte address shows in what is lent; off mappings sparse or nothing, as the list says
+abbrev pub offMappings : Lent → ℕ → Shown
+offMappings l x = bare (ranges (l .ranges)) x
 
+abbrev pub shows : Lent → ℕ → Shown
+shows l x = translate (offMappings l x) (mappings (l .table)) x
+
+-- k is what the granted request r leaves of l: what byte addresses show; a valid table, zeros behind it; the list as it
+-- was; look-ups are answered
+pub record Effect (s : Space) (r : Request) (l k : Lent) : Type 0 where
+  pub maps : r .op ≡ 0 → (x : ℕ) → r .address ≤ x → x < stop r → shows k x ≡ Object (r .object) (r .offset + (x - r .address))
+  pub unmaps : r .op ≡ 1 → (x : ℕ) → r .address ≤ x → x < stop r → shows k x ≡ offMappings l x
+  pub elsewhere : (x : ℕ) → (x < r .address) ⊎ (stop r ≤ x) → shows k x ≡ shows l x
+  pub valid : TableRules s (mappings (k .table))
+  pub zeros : (drop (4 * k .table .count) (k .table .words) ≡ replicate (length (l .table .words) - 4 * k .table .count) 0)
+      × (length (k .table .words) ≡ length (l .table .words))
+  pub list : k .ranges ≡ l .ranges
+  pub answers : (x : ℕ) → lookup s k x ≡ answered (seeIn s k x)
+
+-- of requests without the sparse flag
 abbrev pub Demand2 : Type 0
-Demand2 = (s : Space) (t : Table) (os : List ℕ) (q : Asking) (g : Grant) → bind s t os q .answer ≡ answered g
-    → Effect s (asked q) t (tableAfter t (bind s t os q))
+Demand2 = (s : Space) (l : Lent) (os : List ℕ) (q : Asking) (g : Grant) → Unflagged (asked q) → bind s l os q .answer ≡ answered g
+    → Effect s (asked q) l (lentAfter l (bind s l os q))
 
 abbrev pub equal : Mapping → Mapping → Bool
 equal m n = all (eqb (m .address) (n .address) ∷ eqb (m .size) (n .size) ∷ eqb (m .object) (n .object) ∷ eqb (m .offset) (n .offset) ∷ [])
@@ -78,8 +88,8 @@ pub record Replays (r : Request) (t u : Table) (os : List Operation) (lent writt
   pub operations-most : g .operations ≤ t .count + 1
 
 abbrev pub Replay : Type 0
-Replay = (s : Space) (t : Table) (os : List ℕ) (q : Asking) (g : Grant) → bind s t os q .answer ≡ answered g
-    → Replays (asked q) t (tableAfter t (bind s t os q)) (operations (asked q) (mappings t)) os (bind s t os q .operations) g
+Replay = (s : Space) (l : Lent) (os : List ℕ) (q : Asking) (g : Grant) → Unflagged (asked q) → bind s l os q .answer ≡ answered g
+    → Replays (asked q) (l .table) (lentAfter l (bind s l os q) .table) (operations (asked q) (mappings (l .table))) os (bind s l os q .operations) g
 
 -- an operation's second word
 abbrev pub keepWord : Operation → ℕ
@@ -97,10 +107,10 @@ Keep = (r : Request) (ms : List Mapping) → Each (Marked r) (operations r ms)
 -- and what that means to a driver: a byte that the old mapping has inside the range shows after the grant what it
 -- showed before exactly if the word is 1, so that page entries can stay exactly there
 abbrev pub KeepShows : Type 0
-KeepShows = (s : Space) (t : Table) (os : List ℕ) (q : Asking) (g : Grant) → bind s t os q .answer ≡ answered g
+KeepShows = (s : Space) (l : Lent) (os : List ℕ) (q : Asking) (g : Grant) → Unflagged (asked q) → bind s l os q .answer ≡ answered g
     → Each (λ o. (m : Mapping) → m ∈ old o → (x : ℕ) → m .address ≤ x → x < end m → asked q .address ≤ x → x < stop (asked q)
-    → (keepWord o ≡ 1) ↔ (shownReply (lookup s (tableAfter t (bind s t os q)) x) ≡ shownReply (lookup s t x)))
-    (operations (asked q) (mappings t))
+    → (keepWord o ≡ 1) ↔ (shownReply (lookup s (lentAfter l (bind s l os q)) x) ≡ shownReply (lookup s l x)))
+    (operations (asked q) (mappings (l .table)))
 
 -- document 01: an operation is 14 words: kind, keep, the old mapping (a map's new one), the lower rest, the upper rest;
 -- an absent rest is four zeros

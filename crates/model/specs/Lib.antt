@@ -2,11 +2,13 @@ pub mod Prelude
 pub mod Rows
 pub mod Rules
 pub mod Table
+pub mod Ranges
 pub mod Cut
 pub mod Layout
 pub mod Calls
 pub mod Exactly
 pub mod Lookups
 pub mod Grants
+pub mod Sparse
 pub mod Demand3
 pub mod Drawings

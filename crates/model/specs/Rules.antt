@@ -1,6 +1,6 @@
 -- The rules of a space, a mapping and a request as tests, and lines of document 01's refusal table as named rows. Sums
 -- are exact, in ℕ.
-use Rattle.model.specs.Prelude.{Bool, List, [], _∷_, _++_, ℕ, zero, suc, _+_, _-_, _%_, _^_, min, max, leb, ltb, eqb, Space, Mapping, Request}
+use Rattle.model.specs.Prelude.{Bool, _||_, List, [], _∷_, _++_, ℕ, zero, suc, _+_, _-_, _%_, _^_, min, max, leb, ltb, eqb, Space, Mapping, Request}
 use Rattle.model.specs.Rows.{Row, row}
 
 -- document 01: Sizes
@@ -17,6 +17,10 @@ lastObject = 2 ^ 32 - 1
 -- document 02: a table has room for 1 to so many mappings
 abbrev pub mostMappings : ℕ
 mostMappings = 4096
+
+-- document 02: the flag of a request for a sparse range, bit 8 of source document 001
+abbrev pub sparseFlag : ℕ
+sparseFlag = 256
 
 -- where a mapping ends, and a request's range
 abbrev pub end : Mapping → ℕ
@@ -61,8 +65,8 @@ mappingTests s m =
 abbrev pub byNumbers : ℕ → ℕ → ℕ → ℕ → ℕ → Request
 byNumbers op address size object offset = record { op = op; flags = 0; object = object; pad = 0; address = address; offset = offset; size = size }
 
--- op 0 maps, op 1 unmaps; 13 keeps any other away. A map's object is from 1 to the last; an unmap has no object and no
--- offset
+-- op 0 maps, op 1 unmaps; 13 keeps any other away. By op and flags together, which are 0 only for a map without the
+-- flag: its object is from 1 to the last; an unmap, and a request with the flag, has no object and no offset
 abbrev pub objectTests : ℕ → Request → List Bool
 objectTests zero r = leb 1 (r .object) ∷ leb (r .object) lastObject ∷ []
 objectTests (suc n) r = eqb (r .object) 0 ∷ eqb (r .offset) 0 ∷ []
@@ -75,9 +79,9 @@ offsetTests (suc n) r = []
 abbrev pub opRow : Request → Row
 opRow r = row 13 (leb (r .op) 1 ∷ [])
 
--- flags or pad not 0
-abbrev pub flagsRow : Request → Row
-flagsRow r = row 14 (eqb (r .flags) 0 ∷ eqb (r .pad) 0 ∷ [])
+-- flags other than 0 and the flag that is served (0 where none is), or pad not 0
+abbrev pub flagsRow : ℕ → Request → Row
+flagsRow served r = row 14 ((eqb (r .flags) 0 || eqb (r .flags) served) ∷ eqb (r .pad) 0 ∷ [])
 
 -- space breaks its rules
 abbrev pub spaceRow : Space → Row
@@ -95,17 +99,18 @@ insideRow s r = row 7 (inside (r .address) (stop r) (s .start) (s .start + s .si
 abbrev pub reservationRow : Space → Request → Row
 reservationRow s r = row 8 (apart (r .address) (stop r) (s .reserved .start) (s .reserved .start + s .reserved .size) ∷ [])
 
--- map with object 0 or above the last; unmap with object or offset not 0
+-- map with object 0 or above the last; unmap, or request with the flag, with object or offset not 0
 abbrev pub objectRow : Request → Row
-objectRow r = row 9 (objectTests (r .op) r)
+objectRow r = row 9 (objectTests (r .op + r .flags) r)
 
 -- map with offset plus size above the limit
 abbrev pub offsetRow : Request → Row
 offsetRow r = row 10 (offsetTests (r .op) r)
 
--- the rows of a request, in their order: its form, which comes before everything else; what it asks of a space
-unfoldable pub formRows : Request → List Row
-formRows r = opRow r ∷ flagsRow r ∷ []
+-- the rows of a request, in their order: its form, which comes before everything else, where a flag is served; what it
+-- asks of a space
+unfoldable pub formRows : ℕ → Request → List Row
+formRows served r = opRow r ∷ flagsRow served r ∷ []
 
 unfoldable pub requestRows : Space → Request → List Row
 requestRows s r = alignmentRow r ∷ insideRow s r ∷ reservationRow s r ∷ objectRow r ∷ offsetRow r ∷ []

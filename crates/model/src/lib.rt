@@ -1,7 +1,7 @@
 // What must be believed, and nothing else: the declared types here, the definitions and the claims in specs/.
 // There is no function. Proofs of the claims are in proofs/.
 
-// A range of addresses: [start, start + size).
+// A range of addresses: [start, start + size). A reservation is one, and a sparse range.
 pub struct Range {
     pub start: u64,
     pub size: u64,
@@ -34,8 +34,8 @@ pub struct Request {
     pub size: u64,
 }
 
-// The refusals of document 01's table, in the order of their numbers 1 to 14, and document 02's 17. A bad mapping has
-// its place.
+// The refusals of document 01's table, in the order of their numbers 1 to 14, and document 02's 17 to 20. A bad mapping
+// has its place.
 pub enum Refusal {
     BadSpace,
     BadTableLength,
@@ -52,6 +52,9 @@ pub enum Refusal {
     BadOp,
     BadFlags,
     StaleWords,
+    BadRanges,
+    RangeOverlaps,
+    NoSuchRange,
 }
 
 // What a check of some rows of the table says.
@@ -86,9 +89,10 @@ pub enum Listed {
     Unknown,
 }
 
-// What a byte address shows: nothing, or an object's byte at an offset.
+// What a byte address shows: nothing; a sparse range and no mapping; or an object's byte at an offset.
 pub enum Shown {
     Nothing,
+    Sparse,
     Object(u64, u64),
 }
 
@@ -99,10 +103,12 @@ pub struct Seen {
     pub bytes: u64,
 }
 
-// What a granted request answers: the number of operations and the new count.
+// What a granted request answers: the number of operations, and the counts of the table and of the list of sparse ranges
+// afterwards.
 pub struct Grant {
     pub operations: usize,
     pub count: usize,
+    pub ranges: usize,
 }
 
 // The answer to a request.
