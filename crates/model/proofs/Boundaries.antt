@@ -11,8 +11,9 @@ use lib.ListN.{replicate}
 use Rattle.model.specs.Prelude.{Space, Nothing, Object, Seen, Grant}
 use Rattle.model.specs.Rows.{Reply, refused, answered, decide}
 use Rattle.model.specs.Rules.{byNumbers, formRows, requestRows}
-use Rattle.model.specs.Calls.{spaceOf, checkRows, checkRequest, littleEndian, requestOf, recordRows, bytesOf, recordOf, numbers, bindRows, bind, lookup}
+use Rattle.model.specs.Calls.{spaceOf, checkRows, checkRequest, littleEndian, requestOf, recordRows, bytesOf, recordOf, numbers, Lent, lentRows, bindRows, bind, lookup}
 use Rattle.model.specs.Table.{Table, mappingsIn, badPlace, tableRows}
+use Rattle.model.specs.Ranges.{rangesIn, listTests, bare, nextEdge}
 use Rattle.model.specs.Cut.{below, above, hits, operations, translate, runEnd}
 use Rattle.model.specs.Exactly.{Each}
 use Rattle.model.proofs.Tests.{and-both}
@@ -121,14 +122,18 @@ counted =
     ∷ (behind 7 0 0 0, refused 17 0) ∷ (behind 7 0 0 2, refused 5 1) ∷ (behind 7 0 0 3, refused 4 0) ∷ (behind 0 1 1 1, refused 5 0)
     ∷ []
 
-counted-right : Each (λ (a : Table × Reply Seen). lookup plain (a .0) 0 ≡ a .1) counted
-unfolding counted lookup tableRows decide badPlace mappingsIn translate runEnd
+-- beside a list of length 0
+abbrev alone : Table → Lent
+alone t = record { table = t; ranges = record { words = []; count = 0 } }
+
+counted-right : Each (λ (a : Table × Reply Seen). lookup plain (alone (a .0)) 0 ≡ a .1) counted
+unfolding counted lookup tableRows lentRows rangesIn listTests decide badPlace mappingsIn translate runEnd bare nextEdge
 counted-right = (refl, (refl, (refl, (refl, (refl, (refl, (refl, tt)))))))
 
 -- 17 stands above 6, and changes nothing
-stale-bound : bind plain (behind 7 0 1 1) (replicate 42 9) (numbers 0 1 1 0 1)
-    ≡ record { answer = refused 17 0; table = behind 7 0 1 1 .words; operations = replicate 42 9 }
-unfolding bind bindRows formRows tableRows decide badPlace mappingsIn
+stale-bound : bind plain (alone (behind 7 0 1 1)) (replicate 42 9) (numbers 0 1 1 0 1)
+    ≡ record { answer = refused 17 0; table = behind 7 0 1 1 .words; ranges = []; operations = replicate 42 9 }
+unfolding bind bindRows formRows tableRows lentRows decide badPlace mappingsIn
 stale-bound = refl
 
 -- ── the longest table, and one mapping more ──
@@ -138,20 +143,20 @@ zeros n = record { words = replicate n 0; count = 0 }
 
 -- a map of a page into an empty table of n words; the operation words are enough for each of them
 abbrev mapInto : ℕ → Reply Grant
-mapInto n = bind plain (zeros n) (replicate 60000 0) (numbers 0 0 4096 7 0) .answer
+mapInto n = bind plain (alone (zeros n)) (replicate 60000 0) (numbers 0 0 4096 7 0) .answer
 
-longest-bound : mapInto 16384 ≡ answered (record { operations = 1; count = 1 })
-unfolding bind bindRows formRows requestRows tableRows decide badPlace mappingsIn below above hits operations
+longest-bound : mapInto 16384 ≡ answered (record { operations = 1; count = 1; ranges = 0 })
+unfolding bind bindRows formRows requestRows tableRows lentRows rangesIn listTests decide badPlace mappingsIn below above hits operations
 longest-bound = refl
 
 too-long-bound : mapInto 16388 ≡ refused 2 0
-unfolding bind bindRows formRows tableRows decide
+unfolding bind bindRows formRows tableRows lentRows decide
 too-long-bound = refl
 
-longest-shown : lookup plain (zeros 16384) 0 ≡ answered (record { shown = Nothing; bytes = 65536 })
-unfolding lookup tableRows decide badPlace mappingsIn translate runEnd
+longest-shown : lookup plain (alone (zeros 16384)) 0 ≡ answered (record { shown = Nothing; bytes = 65536 })
+unfolding lookup tableRows lentRows rangesIn listTests decide badPlace mappingsIn translate runEnd bare nextEdge
 longest-shown = refl
 
-too-long-shown : lookup plain (zeros 16388) 0 ≡ refused 2 0
-unfolding lookup tableRows decide
+too-long-shown : lookup plain (alone (zeros 16388)) 0 ≡ refused 2 0
+unfolding lookup tableRows lentRows decide
 too-long-shown = refl

@@ -10,9 +10,10 @@ use lib.ListN.{replicate}
 use Rattle.model.specs.Prelude.{Space, Request, Grant}
 use Rattle.model.specs.Rows.{decide}
 use Rattle.model.specs.Rules.{byNumbers, formRows, requestRows}
-use Rattle.model.specs.Table.{Table, mappingsIn, badPlace, tableRows}
+use Rattle.model.specs.Table.{mappingsIn, badPlace, tableRows}
+use Rattle.model.specs.Ranges.{rangesIn, listTests}
 use Rattle.model.specs.Cut.{below, above, hits, operations}
-use Rattle.model.specs.Calls.{Reply, answered, Asking, numbers, bytes, asked, bindRows, bind, spaceOf, littleEndian, requestOf, bytesOf, recordOf}
+use Rattle.model.specs.Calls.{Reply, answered, Asking, numbers, bytes, asked, Lent, lentRows, bindRows, bind, spaceOf, littleEndian, requestOf, bytesOf, recordOf}
 use Rattle.model.specs.Exactly.{_∈_, Each, refusal}
 use Rattle.model.specs.Demand3.{Pieces, final, Somewhere, Call, Asks, answerTo, leftBy, IsGrant, Replaced}
 use Rattle.model.proofs.Cuts.{piecesFrom, pieces}
@@ -22,9 +23,12 @@ use Rattle.model.proofs.Demand3.{demand-3}
 abbrev space : Space
 space = spaceOf 0 65536 0 0
 
--- [0, 12288) of object 7 and [12288, 16384) of object 8; room for a third
-abbrev start : Table
-start = record { words = 0 ∷ 12288 ∷ 7 ∷ 0 ∷ 12288 ∷ 4096 ∷ 8 ∷ 0 ∷ replicate 4 0; count = 2 }
+-- [0, 12288) of object 7 and [12288, 16384) of object 8, room for a third; [8192, 20480) is sparse, room for another
+abbrev start : Lent
+start = record {
+  table = record { words = 0 ∷ 12288 ∷ 7 ∷ 0 ∷ 12288 ∷ 4096 ∷ 8 ∷ 0 ∷ replicate 4 0; count = 2 };
+  ranges = record { words = 8192 ∷ 12288 ∷ 0 ∷ 0 ∷ []; count = 1 };
+}
 
 -- map [0, 16384) of object 9 from offset 4096 on, cut at 4096 and 8192
 abbrev whole : Request
@@ -94,34 +98,38 @@ each-asks = (
 -- ── the answers ──
 
 -- the answers of a series, in order
-abbrev answers : Table → List Call → List (Reply Grant)
-answers t [] = []
-answers t (d ∷ ds) = answerTo space t d ∷ answers (leftBy space t d) ds
+abbrev answers : Lent → List Call → List (Reply Grant)
+answers l [] = []
+answers l (d ∷ ds) = answerTo space l d ∷ answers (leftBy space l d) ds
 
 abbrev grant : ℕ → ℕ → Grant
-grant n k = record { operations = n; count = k }
+grant n k = record { operations = n; count = k; ranges = 1 }
 
 -- b comes too early: it would leave four mappings. c again takes no room
 pub answered-so : answers start series
     ≡ refusal 11 ∷ answered (grant 3 2) ∷ answered (grant 2 3) ∷ answered (grant 2 3) ∷ answered (grant 2 3) ∷ []
-unfolding bind bindRows decide formRows tableRows requestRows requestOf littleEndian bytesOf recordOf mappingsIn badPlace below above hits operations flatMap
+unfolding bind bindRows decide formRows tableRows lentRows rangesIn listTests requestRows requestOf littleEndian bytesOf recordOf mappingsIn badPlace below above hits operations flatMap
 answered-so = refl
 
 -- a by the fifth call, b by the third, c by the second
 pub each-granted : Each (λ p. Somewhere (leftBy space) (λ u d. (asked (d .asking) ≡ p) × IsGrant (answerTo space u d)) start series) parts
-unfolding bind bindRows decide formRows tableRows requestRows requestOf littleEndian bytesOf recordOf mappingsIn badPlace below above hits operations flatMap
+unfolding bind bindRows decide formRows tableRows lentRows rangesIn listTests requestRows requestOf littleEndian bytesOf recordOf mappingsIn badPlace below above hits operations flatMap
 each-granted =
     (inr (inr (inr (inr (inl (refl, (grant 2 3, refl)))))), (inr (inr (inl (refl, (grant 2 3, refl)))), (inr (inl (refl, (grant 3 2, refl))), tt)))
 
 pub outcome : final (leftBy space) start series
-    ≡ record { words = 0 ∷ 4096 ∷ 9 ∷ 4096 ∷ 4096 ∷ 4096 ∷ 9 ∷ 8192 ∷ 8192 ∷ 8192 ∷ 9 ∷ 12288 ∷ []; count = 3 }
-unfolding final bind bindRows decide formRows tableRows requestRows requestOf littleEndian bytesOf recordOf mappingsIn badPlace below above hits operations flatMap
+    ≡ record { table = record { words = 0 ∷ 4096 ∷ 9 ∷ 4096 ∷ 4096 ∷ 4096 ∷ 9 ∷ 8192 ∷ 8192 ∷ 8192 ∷ 9 ∷ 12288 ∷ []; count = 3 }; ranges = start .ranges }
+unfolding final bind bindRows decide formRows tableRows lentRows rangesIn listTests requestRows requestOf littleEndian bytesOf recordOf mappingsIn badPlace below above hits operations flatMap
 outcome = refl
 
 -- ── the claim about it ──
 
+-- no flag
+off : whole .flags ≡ 256 → ⊥
+off e = omega arith
+
 pub granted : IsGrant (answerTo space start uncut)
-granted = demand-3 space start whole parts uncut series are-pieces asks each-asks .0 each-granted .0
+granted = demand-3 space start whole parts uncut series off are-pieces asks each-asks .0 each-granted .0
 
 pub replaced : Replaced start whole parts (leftBy space start uncut) (final (leftBy space) start series)
-replaced = demand-3 space start whole parts uncut series are-pieces asks each-asks .0 each-granted .1 refl
+replaced = demand-3 space start whole parts uncut series off are-pieces asks each-asks .0 each-granted .1 refl

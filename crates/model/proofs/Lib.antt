@@ -31,6 +31,7 @@ pub mod Service
 pub mod Series
 pub mod General
 pub mod ByRows
+pub mod Plain
 pub mod Exactly
 pub mod Granted
 pub mod Taken

@@ -7,11 +7,10 @@ use Prim.Native.Nat.{ℕ, _+_, _*_, _≤_}
 use native.Mathlib.Omega.{arith}
 use lib.ListN.{length, length-append, length-drop, drop}
 use Rattle.model.specs.Prelude.{some, Space, Mapping, Request, Map, Grant}
-use Rattle.model.specs.Rows.{answered}
-use Rattle.model.specs.Table.{Table, mappings}
+use Rattle.model.specs.Table.{mappings}
 use Rattle.model.specs.Cut.{new, after, operations, old, rests}
 use Rattle.model.specs.Layout.{operationWords}
-use Rattle.model.specs.Calls.{asked, grantOf, Outcome, outcomeFor, tableAfter}
+use Rattle.model.specs.Calls.{asked, Lent, cutGrant, Outcome, cut, lentAfter}
 use Rattle.model.specs.Grants.{Replays, Replay}
 use Rattle.model.proofs.Tests.{tests}
 use Rattle.model.proofs.Run.{Run, run-ascends}
@@ -24,37 +23,37 @@ use Rattle.model.proofs.Counts.{count-rule, count-most}
 use Rattle.model.proofs.Replay.{replays}
 
 -- number 3 settles that the operation slice is long enough
-room-enough : (s : Space) (n : ℕ) (t : Table) → Good s n t → 14 * (t .count + 1) ≤ n
-room-enough s n t g = omega (tests, g .others, g .count)
+room-enough : (s : Space) (n : ℕ) (l : Lent) → Good s n l → 14 * (l .table .count + 1) ≤ n
+room-enough s n l g = omega (tests, g .table .others, g .table .count)
 
 pub replay-claim : Replay
-replay-claim s t os q g e =
-    subst (λ (o : Outcome). Replays r t (tableAfter t o) (operations r ms) os (o .operations) g) (sym (w .outcome))
-    (subst (λ (g : Grant). Replays r t (tableAfter t (outcomeFor (answered g) r t os)) (operations r ms) os (outcomeFor (answered g) r t os .operations) g)
+replay-claim s l os q g off e =
+    subst (λ (o : Outcome). Replays r (l .table) (lentAfter l o .table) (operations r ms) os (o .operations) g) (sym (w .outcome))
+    (subst (λ (g : Grant). Replays r (l .table) (lentAfter l (cut g r l os) .table) (operations r ms) os (cut g r l os .operations) g)
     (sym (w .grant)) it)
   where
-    w : Granting s t os q g
-    w = granting s t os q g e
+    w : Granting s l os q g
+    w = granting s l os q g off e
 
     r : Request
     r = asked q
 
     ms : List Mapping
-    ms = mappings t
+    ms = mappings (l .table)
 
     run : Run 0 ms
-    run = chain-run s 0 _ ms (table-chain s (length os) t (w .good))
+    run = chain-run s 0 _ ms (table-chain s (length os) l (w .good))
 
-    count : length ms ≡ t .count
-    count = length-mappings (t .count) (t .words)
+    count : length ms ≡ l .table .count
+    count = length-mappings (l .table .count) (l .table .words)
 
-    most : length (operations r ms) ≤ t .count + 1
+    most : length (operations r ms) ≤ l .table .count + 1
     most = omega (arith, operations-most r ms, count)
 
-    it : Replays r t (rewritten t (after r ms)) (operations r ms) os
-        (flatMap operationWords (operations r ms) ++ drop (14 * length (operations r ms)) os) (grantOf r ms)
+    it : Replays r (l .table) (rewritten (l .table) (after r ms)) (operations r ms) os
+        (flatMap operationWords (operations r ms) ++ drop (14 * length (operations r ms)) os) (cutGrant r l)
     it = record {
-      replayed = replays r ms (w .may .not-empty) run ∙ ap some (sym (holds-mappings t _ (after r ms) (holds-rewritten t (after r ms) (w .room))));
+      replayed = replays r ms (w .may .not-empty) run ∙ ap some (sym (holds-mappings (l .table) _ (after r ms) (holds-rewritten (l .table) (after r ms) (w .room))));
       hit = hit-members r ms;
       ascending = hits-ascend r ms (run-ascends 0 ms run);
       front = front r ms;
@@ -78,4 +77,4 @@ replay-claim s t os q g e =
 
         kept : length (flatMap operationWords (operations r ms) ++ drop (14 * length (operations r ms)) os) ≡ length os
         kept = length-append (flatMap operationWords (operations r ms)) _
-            ∙ omega (arith, operations-words (operations r ms), length-drop (14 * length (operations r ms)) os, room-enough s (length os) t (w .good), most)
+            ∙ omega (arith, operations-words (operations r ms), length-drop (14 * length (operations r ms)) os, room-enough s (length os) l (w .good), most)
