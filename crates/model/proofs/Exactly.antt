@@ -80,12 +80,12 @@ room-says s l r h k z = (
         omega (tests, rule .for-unmap p, e, n, ap length (new-unmap r (λ q. omega (tests, o, q))))
 
 -- what a request is for, in the words of its flags and op
-data For (r : Request) : Purpose → Type 0 where
+pub data For (r : Request) : Purpose → Type 0 where
   for-table : r .flags ≡ 0 → For r cuts
   for-adding : r .flags ≡ 256 → r .op ≡ 0 → For r adds
   for-removing : r .flags ≡ 256 → r .op ≡ 1 → For r removes
 
-is-for : (r : Request) → r .op < 2 → Flags r → For r (purpose r)
+pub is-for : (r : Request) → r .op < 2 → Flags r → For r (purpose r)
 is-for r op flags = go (r .flags) refl (r .op) refl flags
   where
     go : (f : ℕ) → r .flags ≡ f → (o : ℕ) → r .op ≡ o → Flags r → For r (purposeFor f o)
@@ -150,7 +150,7 @@ of-bind s l os q a =
     let k = of-rows s l (length os) q a in
     (λ h. k .0 (sym e ∙ h), λ h. e ∙ k .1 h)
 
-unchanged : (s : Space) (l : Lent) (os : List ℕ) (q : Asking) (n p : ℕ) → bind s l os q .answer ≡ refused n p
+pub unchanged : (s : Space) (l : Lent) (os : List ℕ) (q : Asking) (n p : ℕ) → bind s l os q .answer ≡ refused n p
     → (bind s l os q .table ≡ l .table .words) × (bind s l os q .ranges ≡ l .ranges .words) × (bind s l os q .operations ≡ os)
 unfolding bind
 unchanged s l os q n p e = go (decide (bindRows s l (length os) q) (grantFor (purpose r) r l)) e

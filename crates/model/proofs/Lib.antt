@@ -21,6 +21,7 @@ pub mod Table
 pub mod Store
 pub mod Zeros
 pub mod Ranges
+pub mod Relisted
 pub mod Cuts
 pub mod Pieces
 pub mod Sort
@@ -38,6 +39,7 @@ pub mod Taken
 pub mod Demand2
 pub mod Lookups
 pub mod Walk
+pub mod Sparse
 pub mod KeepShows
 pub mod Replays
 pub mod Demand3
