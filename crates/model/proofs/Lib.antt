@@ -35,6 +35,7 @@ pub mod Exactly
 pub mod Granted
 pub mod Taken
 pub mod Demand2
+pub mod See
 pub mod Lookups
 pub mod Walk
 pub mod KeepShows
