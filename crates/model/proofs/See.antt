@@ -3,20 +3,23 @@
 -- Assumes nothing.
 use mathlib.Core.Path.{_≡_, refl, sym, ap, ap₂, _∙_}
 use mathlib.Core.Logic.{_⊎_, inl, inr}
+use mathlib.Core.Bool.{Bool, true, false}
 use mathlib.Core.List.{List, [], _∷_, List·Memᴰ·head, List·Memᴰ·tail, List·Memᴰ·not-nil}
 use Prim.Native.Nat.{ℕ, _+_, _-_, _≤_, _<_, min}
 use native.Mathlib.Omega.{arith}
+use lib.Dec.{ltb}
 use borrow.Author.Tests.{lt-ltb, le-ltb}
-use Rattle.model.specs.Prelude.{Range, Space, Mapping, Shown, Nothing, Object, Seen}
+use Rattle.model.specs.Prelude.{Range, Space, Mapping, Shown, Nothing, Sparse, Object, Seen}
+use Rattle.model.specs.Rows.{choose}
 use Rattle.model.specs.Rules.{end}
-use Rattle.model.specs.Ranges.{inRangeTests, bare, nextEdge}
+use Rattle.model.specs.Ranges.{rangeEnd, inRangeTests, bare, nearer, nextEdge}
 use Rattle.model.specs.Cut.{insideTests, translate, runEnd, inSpaceTests, bytesTo, see}
-use Rattle.model.specs.Exactly.{_∈_, Each, MappingRules, TableRules, RangeRules}
+use Rattle.model.specs.Exactly.{_∈_, Each, Ascends, MappingRules, TableRules, RangeRules}
 use Rattle.model.specs.Lookups.{Has, Free, NoRange, InSpace, nothing}
 use Rattle.model.proofs.Numbers.{order}
 use Rattle.model.proofs.Tests.{tests, all-true, all-false}
 use Rattle.model.proofs.Actions.{each-mem}
-use Rattle.model.proofs.Translate.{translate-here, translate-past, hides-all}
+use Rattle.model.proofs.Translate.{has-or-not, translate-here, translate-past, hides-all}
 use Rattle.model.proofs.Table.{top}
 
 -- ── where the answer ends, with a mapping in front of others ──
@@ -110,6 +113,42 @@ module _ (s : Space) (m : Mapping) (ms : List Mapping) (x : ℕ) (a : Each (λ n
       let e : runEnd (top s) (m ∷ ms) x ≡ m .address = omega (arith, runEnd-before (top s) m ms x h, runEnd-behind (top s) (end m) x ms (omega arith) a) in
       ap₂ shows (hides-all Nothing (m ∷ ms) x free-before) (bytes-inside s x i (runEnd (top s) (m ∷ ms) x) ∙ ap (λ (e : ℕ). e - x) e)
 
+-- ── mappings in order ──
+
+-- one of some mappings has x, or none
+pub has-or-free : (ms : List Mapping) (x : ℕ) → ((m : Mapping) × m ∈ ms × Has m x) ⊎ Free ms x
+has-or-free [] x = inr (λ m i. absurd (List·Memᴰ·not-nil i))
+has-or-free (m ∷ ms) x = go (has-or-not m x) (has-or-free ms x)
+  where
+    go : Has m x ⊎ (Has m x → ⊥) → ((n : Mapping) × n ∈ ms × Has n x) ⊎ Free ms x → ((n : Mapping) × n ∈ (m ∷ ms) × Has n x) ⊎ Free (m ∷ ms) x
+    go (inl b) w = inl (m, List·Memᴰ·head refl, b)
+    go (inr n) (inl (o, i, b)) = inl (o, List·Memᴰ·tail i, b)
+    go (inr n) (inr f) = inr free
+      where
+        free : Free (m ∷ ms) x
+        free o (List·Memᴰ·head e) b = n (rw e at b)
+        free o (List·Memᴰ·tail i) b = f o i b
+
+-- the one that has x decides
+pub see-member : (s : Space) (ys : List Range) (ms : List Mapping) (m : Mapping) (x : ℕ) → Ascends ms → InSpace s x → m ∈ ms → Has m x
+    → see s ys ms x ≡ bytes-of m x
+see-member s ys (n ∷ ms) m x a i (List·Memᴰ·head e) b = rw e (see-inside s ys n ms x i (rw e at b))
+see-member s ys (n ∷ ms) m x a i (List·Memᴰ·tail k) b =
+    let behind : end n ≤ m .address = each-mem (λ m. end n ≤ m .address) ms m (a .0) k in
+    see-past s ys n ms x (omega arith) ∙ see-member s ys ms m x (a .1) i k b
+
+-- where none has x, the ranges say what is shown, and the next edge how far
+runEnd-free : (to : ℕ) (m : Mapping) (ms : List Mapping) (x : ℕ) → Free (m ∷ ms) x → runEnd to (m ∷ ms) x ≡ nearer x (m .address) (runEnd to ms x)
+unfolding runEnd
+runEnd-free to m ms x f = rw (all-false (insideTests m x) (λ t. f m (List·Memᴰ·head refl) (omega tests)), runEnd)
+
+abbrev pub offEnd : Space → List Range → List Mapping → ℕ → ℕ
+offEnd s ys ms x = runEnd (nextEdge (top s) ys x) ms x
+
+pub see-free : (s : Space) (ys : List Range) (ms : List Mapping) (x : ℕ) → InSpace s x → Free ms x
+    → see s ys ms x ≡ shows (bare ys x) (offEnd s ys ms x - x)
+see-free s ys ms x i f = ap₂ shows (hides-all (bare ys x) ms x f) (bytes-inside s x i (offEnd s ys ms x))
+
 -- ── outside the space ──
 
 pub bare-none : (ys : List Range) (x : ℕ) → NoRange ys x → bare ys x ≡ Nothing
@@ -118,9 +157,108 @@ bare-none [] x n = refl
 bare-none (y ∷ ys) x n =
     rw (all-false (inRangeTests y x) (λ t. n y (List·Memᴰ·head refl) (omega tests)), bare) (bare-none ys x (λ z i. n z (List·Memᴰ·tail i)))
 
-module _ (s : Space) (ys : List Range) (ms : List Mapping) (q : Each (RangeRules s) ys) (r : TableRules s ms) where
-  pub see-outside : (x : ℕ) → (InSpace s x → ⊥) → see s ys ms x ≡ nothing 0
-  see-outside x n =
-      let free : Free ms x = λ m i b. let k = each-mem (MappingRules s) ms m (r .0) i .within in n (omega arith, omega arith) in
-      let none : NoRange ys x = λ y i b. let k = each-mem (RangeRules s) ys y q i .within in n (omega arith, omega arith) in
-      ap₂ shows (hides-all (bare ys x) ms x free ∙ bare-none ys x none) (bytes-outside s x n _)
+pub bare-outside : (s : Space) (ys : List Range) → Each (RangeRules s) ys → (x : ℕ) → (InSpace s x → ⊥) → bare ys x ≡ Nothing
+bare-outside s ys q x n = bare-none ys x (λ y i b. let k = each-mem (RangeRules s) ys y q i .within in n (omega arith, omega arith))
+
+pub inside-or-not : (s : Space) (x : ℕ) → InSpace s x ⊎ (InSpace s x → ⊥)
+inside-or-not s x = go (order (s .start) x) (order (top s) x)
+  where
+    go : (s .start ≤ x) ⊎ (x < s .start) → (top s ≤ x) ⊎ (x < top s) → InSpace s x ⊎ (InSpace s x → ⊥)
+    go (inl h) (inr k) = inl (h, k)
+    go (inl h) (inl k) = inr (λ i. omega arith)
+    go (inr h) k = inr (λ i. omega arith)
+
+pub see-outside : (s : Space) (ys : List Range) (ms : List Mapping) → Each (RangeRules s) ys → TableRules s ms → (x : ℕ) → (InSpace s x → ⊥)
+    → see s ys ms x ≡ nothing 0
+see-outside s ys ms q r x n =
+    let free : Free ms x = λ m i b. let k = each-mem (MappingRules s) ms m (r .0) i .within in n (omega arith, omega arith) in
+    ap₂ shows (hides-all (bare ys x) ms x free ∙ bare-outside s ys q x n) (bytes-outside s x n _)
+
+-- ── ranges beside what is seen without them ──
+
+-- edges may be taken in any order
+nearer-swap : (x a b c : ℕ) → nearer x a (nearer x b c) ≡ nearer x b (nearer x a c)
+nearer-swap x a b c = go (ltb x a) (ltb x b)
+  where
+    go : (p q : Bool) → choose p (min a (choose q (min b c) c)) (choose q (min b c) c) ≡ choose q (min b (choose p (min a c) c)) (choose p (min a c) c)
+    go true true = omega arith
+    go true false = refl
+    go false true = refl
+    go false false = refl
+
+-- an edge behind x is no nearer than x itself
+nearer-here : (x a : ℕ) → nearer x a x ≡ x
+nearer-here x a = go (order a x)
+  where
+    go : (a ≤ x) ⊎ (x < a) → nearer x a x ≡ x
+    go (inl h) = rw (le-ltb x a h)
+    go (inr h) = rw (lt-ltb x a h) (omega arith)
+
+nearer-least : (x a b : ℕ) → x ≤ b → x ≤ nearer x a b
+nearer-least x a b h = go (order a x)
+  where
+    go : (a ≤ x) ⊎ (x < a) → x ≤ nearer x a b
+    go (inl k) = rw (le-ltb x a k) h
+    go (inr k) = rw (lt-ltb x a k) (omega arith)
+
+nextEdge-here : (ys : List Range) (x : ℕ) → nextEdge x ys x ≡ x
+unfolding nextEdge
+nextEdge-here [] x = refl
+nextEdge-here (y ∷ ys) x = rw (nextEdge-here ys x, nearer-here x (rangeEnd y)) (nearer-here x (y .start))
+
+nextEdge-nearer : (to a : ℕ) (ys : List Range) (x : ℕ) → nextEdge (nearer x a to) ys x ≡ nearer x a (nextEdge to ys x)
+unfolding nextEdge
+nextEdge-nearer to a [] x = refl
+nextEdge-nearer to a (y ∷ ys) x =
+    ap (λ (e : ℕ). nearer x (y .start) (nearer x (rangeEnd y) e)) (nextEdge-nearer to a ys x)
+    ∙ ap (nearer x (y .start)) (nearer-swap x (rangeEnd y) a (nextEdge to ys x))
+    ∙ nearer-swap x (y .start) a (nearer x (rangeEnd y) (nextEdge to ys x))
+
+rest-free : {m : Mapping} {ms : List Mapping} {x : ℕ} → Free (m ∷ ms) x → Free ms x
+rest-free f n i = f n (List·Memᴰ·tail i)
+
+runEnd-edge : (to : ℕ) (ys : List Range) (ms : List Mapping) (x : ℕ) → Free ms x → runEnd (nextEdge to ys x) ms x ≡ nextEdge (runEnd to ms x) ys x
+runEnd-edge to ys [] x f = runEnd-none (nextEdge to ys x) x ∙ ap (λ (e : ℕ). nextEdge e ys x) (sym (runEnd-none to x))
+runEnd-edge to ys (m ∷ ms) x f =
+    runEnd-free (nextEdge to ys x) m ms x f
+    ∙ ap (nearer x (m .address)) (runEnd-edge to ys ms x (rest-free f))
+    ∙ sym (nextEdge-nearer (runEnd to ms x) (m .address) ys x)
+    ∙ ap (λ (e : ℕ). nextEdge e ys x) (sym (runEnd-free to m ms x f))
+
+runEnd-least : (to : ℕ) (ms : List Mapping) (x : ℕ) → Free ms x → x ≤ to → x ≤ runEnd to ms x
+runEnd-least to [] x f h = rw (runEnd-none to x) h
+runEnd-least to (m ∷ ms) x f h = rw (runEnd-free to m ms x f) (nearer-least x (m .address) (runEnd to ms x) (runEnd-least to ms x (rest-free f) h))
+
+-- what is seen beside ranges at x, from what is seen there without them
+abbrev pub besideFor : Shown → List Range → ℕ → Seen → Seen
+besideFor Nothing ys x v = record { shown = bare ys x; bytes = nextEdge (x + v .bytes) ys x - x }
+besideFor Sparse ys x v = v
+besideFor (Object o f) ys x v = v
+
+abbrev pub beside : List Range → ℕ → Seen → Seen
+beside ys x v = besideFor (v .shown) ys x v
+
+module _ (s : Space) (ys : List Range) (ms : List Mapping) (q : Each (RangeRules s) ys) (r : TableRules s ms) (x : ℕ) where
+  beside-outside : (InSpace s x → ⊥) → see s ys ms x ≡ beside ys x (see s [] ms x)
+  beside-outside n =
+      let none : x + 0 ≡ x = omega arith in
+      let e : nextEdge (x + 0) ys x ≡ x = ap (λ (k : ℕ). nextEdge k ys x) none ∙ nextEdge-here ys x in
+      see-outside s ys ms q r x n
+      ∙ sym (ap (beside ys x) (see-outside s [] ms tt r x n) ∙ ap₂ shows (bare-outside s ys q x n) (ap (λ (e : ℕ). e - x) e ∙ omega arith))
+
+  beside-free : InSpace s x → Free ms x → see s ys ms x ≡ beside ys x (see s [] ms x)
+  unfolding bare nextEdge
+  beside-free i f =
+      let to : ℕ = runEnd (top s) ms x in
+      let e : x + (to - x) ≡ to = omega (arith, runEnd-least (top s) ms x f (omega arith)) in
+      see-free s ys ms x i f
+      ∙ ap (λ (e : ℕ). shows (bare ys x) (e - x)) (runEnd-edge (top s) ys ms x f ∙ ap (λ (k : ℕ). nextEdge k ys x) (sym e))
+      ∙ sym (ap (beside ys x) (see-free s [] ms x i f))
+
+  pub see-beside : see s ys ms x ≡ beside ys x (see s [] ms x)
+  see-beside = go (inside-or-not s x) (has-or-free ms x)
+    where
+      go : InSpace s x ⊎ (InSpace s x → ⊥) → ((m : Mapping) × m ∈ ms × Has m x) ⊎ Free ms x → see s ys ms x ≡ beside ys x (see s [] ms x)
+      go (inr n) w = beside-outside n
+      go (inl i) (inr f) = beside-free i f
+      go (inl i) (inl (m, k, b)) = see-member s ys ms m x (r .1) i k b ∙ sym (ap (beside ys x) (see-member s [] ms m x (r .1) i k b))
