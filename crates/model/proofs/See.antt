@@ -37,7 +37,7 @@ module _ (to : ℕ) (m : Mapping) (ms : List Mapping) (x : ℕ) where
   unfolding runEnd
   runEnd-past h = rw (all-false (insideTests m x) (λ t. omega tests), le-ltb x (m .address) (omega arith))
 
-runEnd-none : (to x : ℕ) → runEnd to [] x ≡ to
+pub runEnd-none : (to x : ℕ) → runEnd to [] x ≡ to
 unfolding runEnd
 runEnd-none to x = refl
 
@@ -138,7 +138,7 @@ see-member s ys (n ∷ ms) m x a i (List·Memᴰ·tail k) b =
     see-past s ys n ms x (omega arith) ∙ see-member s ys ms m x (a .1) i k b
 
 -- where none has x, the ranges say what is shown, and the next edge how far
-runEnd-free : (to : ℕ) (m : Mapping) (ms : List Mapping) (x : ℕ) → Free (m ∷ ms) x → runEnd to (m ∷ ms) x ≡ nearer x (m .address) (runEnd to ms x)
+pub runEnd-free : (to : ℕ) (m : Mapping) (ms : List Mapping) (x : ℕ) → Free (m ∷ ms) x → runEnd to (m ∷ ms) x ≡ nearer x (m .address) (runEnd to ms x)
 unfolding runEnd
 runEnd-free to m ms x f = rw (all-false (insideTests m x) (λ t. f m (List·Memᴰ·head refl) (omega tests)), runEnd)
 
@@ -214,7 +214,7 @@ nextEdge-nearer to a (y ∷ ys) x =
     ∙ ap (nearer x (y .start)) (nearer-swap x (rangeEnd y) a (nextEdge to ys x))
     ∙ nearer-swap x (y .start) a (nearer x (rangeEnd y) (nextEdge to ys x))
 
-rest-free : {m : Mapping} {ms : List Mapping} {x : ℕ} → Free (m ∷ ms) x → Free ms x
+pub rest-free : {m : Mapping} {ms : List Mapping} {x : ℕ} → Free (m ∷ ms) x → Free ms x
 rest-free f n i = f n (List·Memᴰ·tail i)
 
 runEnd-edge : (to : ℕ) (ys : List Range) (ms : List Mapping) (x : ℕ) → Free ms x → runEnd (nextEdge to ys x) ms x ≡ nextEdge (runEnd to ms x) ys x
