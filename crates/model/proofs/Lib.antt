@@ -37,6 +37,7 @@ pub mod Exactly
 pub mod Granted
 pub mod Taken
 pub mod Demand2
+pub mod See
 pub mod Lookups
 pub mod Walk
 pub mod Sparse

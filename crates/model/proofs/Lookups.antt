@@ -1,292 +1,323 @@
--- What a look-up tells: of mappings in order, the one that has the byte or the next one behind it decides.
+-- What a look-up tells: the mapping that has the byte decides; where none has it, the ranges say what is shown, and the
+-- next edge how far.
 -- Assumes nothing.
 use mathlib.Core.Path.{_≡_, refl, sym, ap, ap₂, subst, _∙_}
 use mathlib.Core.Logic.{_⊎_, inl, inr}
+use mathlib.Core.Bool.{Bool, true, false}
 use mathlib.Core.List.{List, [], _∷_, List·Memᴰ·head, List·Memᴰ·tail, List·Memᴰ·not-nil}
 use Prim.Native.Nat.{ℕ, _+_, _-_, _≤_, _<_, min}
 use native.Mathlib.Omega.{arith}
 use borrow.Author.Tests.{lt-ltb, le-ltb}
-use Rattle.model.specs.Prelude.{Space, Mapping, Shown, Nothing, Object, Seen}
-use Rattle.model.specs.Rows.{answered}
+use Rattle.model.specs.Prelude.{Range, Space, Mapping, Shown, Sparse, Object, Seen}
+use Rattle.model.specs.Rows.{all, choose, answered}
 use Rattle.model.specs.Rules.{end}
-use Rattle.model.specs.Table.{Table, mappings, tableRows}
-use Rattle.model.specs.Cut.{insideTests, translate, runEnd, inSpaceTests, bytesTo, see}
-use Rattle.model.specs.Calls.{lookup}
-use Rattle.model.specs.Exactly.{_∈_, Each, Ascends, MappingRules, TableRules}
-use Rattle.model.specs.Lookups.{Has, Free, Next, InSpace, nothing, Tells, along, Parts, GoesOn, Lookup}
+use Rattle.model.specs.Table.{mappings}
+use Rattle.model.specs.Ranges.{ranges, rangeEnd, inRangeTests, bare, nearer, nextEdge}
+use Rattle.model.specs.Cut.{see}
+use Rattle.model.specs.Calls.{Lent, lentRows, seeIn, lookup}
+use Rattle.model.specs.Exactly.{_∈_, Each, MappingRules, TableRules, RangeRules}
+use Rattle.model.specs.Lookups.{Has, Free, InRange, Edge, of-mapping, of-start, of-end, of-space, Next, InSpace, nothing, Tells, along, Parts, RangeParts, GoesOn, Lookup}
 use Rattle.model.proofs.Numbers.{order}
-use Rattle.model.proofs.Tests.{tests, all-true, all-false}
+use Rattle.model.proofs.Tests.{tests, all-true, all-same}
 use Rattle.model.proofs.Actions.{each-mem}
-use Rattle.model.proofs.Translate.{translate-here, translate-past, hides-all}
 use Rattle.model.proofs.Table.{top, table-says}
+use Rattle.model.proofs.Ranges.{list-row-says}
 use Rattle.model.proofs.Rows.{Passed, answered-passed, passes}
-use Rattle.model.proofs.Groups.{table-passed}
+use Rattle.model.proofs.Groups.{lent-passed}
+use Rattle.model.proofs.See.{runEnd-none, runEnd-free, rest-free, shows, bytes-of, has-or-free, inside-or-not, offEnd, bare-none, see-member, see-free, see-outside}
 
--- ── where the answer ends, with a mapping in front of others ──
+-- ── the next edge ──
 
-module _ (to : ℕ) (m : Mapping) (ms : List Mapping) (x : ℕ) where
-  runEnd-here : Has m x → runEnd to (m ∷ ms) x ≡ end m
-  unfolding runEnd
-  runEnd-here i = rw (all-true (insideTests m x) (omega tests))
+-- the nearest behind x of what P says are edges
+record NextOf (P : ℕ → Type 0) (x e : ℕ) : Type 0 where
+  is : P e
+  behind : x < e
+  nearest : (f : ℕ) → P f → x < f → e ≤ f
 
-  runEnd-before : x < m .address → runEnd to (m ∷ ms) x ≡ min (m .address) (runEnd to ms x)
-  unfolding runEnd
-  runEnd-before h = rw (all-false (insideTests m x) (λ t. omega tests), lt-ltb x (m .address) h)
-
-  runEnd-past : end m ≤ x → runEnd to (m ∷ ms) x ≡ runEnd to ms x
-  unfolding runEnd
-  runEnd-past h = rw (all-false (insideTests m x) (λ t. omega tests), le-ltb x (m .address) (omega arith))
-
-runEnd-none : (to x : ℕ) → runEnd to [] x ≡ to
-unfolding runEnd
-runEnd-none to x = refl
-
--- mappings that all start at or behind an address behind x have no say below it
-runEnd-behind : (to a x : ℕ) (ms : List Mapping) → x < a → Each (λ m. a ≤ m .address) ms → min a (runEnd to ms x) ≡ min a to
-runEnd-behind to a x [] h k = ap (min a) (runEnd-none to x)
-runEnd-behind to a x (m ∷ ms) h k =
-    let e = runEnd-before to m ms x (omega (arith, k .0)) in
-    omega (arith, e, runEnd-behind to a x ms h (k .1), k .0)
-
--- ── the bytes up to there ──
-
-module _ (s : Space) (x : ℕ) where
-  bytes-inside : InSpace s x → (to : ℕ) → bytesTo s to x ≡ to - x
-  bytes-inside i to = rw (all-true (inSpaceTests s x) (omega tests))
-
-  pub bytes-outside : (InSpace s x → ⊥) → (to : ℕ) → bytesTo s to x ≡ 0
-  bytes-outside n to = rw (all-false (inSpaceTests s x) (λ t. n (omega tests)))
-
-abbrev shows : Shown → ℕ → Seen
-shows v n = record { shown = v; bytes = n }
-
-abbrev bytes-of : Mapping → ℕ → Seen
-bytes-of m x = shows (Object (m .object) (m .offset + (x - m .address))) (end m - x)
-
--- ── a mapping in front of others ──
-
-module _ (s : Space) (m : Mapping) (ms : List Mapping) (x : ℕ) where
-  -- it ends at or before x: the others decide
-  pub see-past : end m ≤ x → see s (m ∷ ms) x ≡ see s ms x
-  see-past h = ap₂ shows (translate-past m ms x (λ i. omega arith)) (ap (λ (e : ℕ). bytesTo s e x) (runEnd-past (top s) m ms x h))
-
-  -- it ends behind x, and the others start at its end or behind it: it decides alone
-  pub see-front : Each (λ n. end m ≤ n .address) ms → x < end m → see s (m ∷ ms) x ≡ see s (m ∷ []) x
-  see-front a h = go (order (m .address) x)
+-- with one edge more
+module _ (P Q : ℕ → Type 0) (a : ℕ) (still : (f : ℕ) → P f → Q f) (more : Q a) (only : (f : ℕ) → Q f → P f ⊎ (f ≡ a)) where
+  next-more : (x e : ℕ) → NextOf P x e → NextOf Q x (nearer x a e)
+  next-more x e n = go (order a x) (order a e)
     where
-      free : Free ms x
-      free n i b = omega (arith, each-mem (λ n. end m ≤ n .address) ms n a i)
+      go : (a ≤ x) ⊎ (x < a) → (a ≤ e) ⊎ (e < a) → NextOf Q x (nearer x a e)
+      go (inl h) k = rw (le-ltb x a h) (record {
+        is = still e (n .is);
+        behind = n .behind;
+        nearest = λ f i l. elim (only f i) [ inl p ↦ n .nearest f p l | inr p ↦ absurd (omega arith) ];
+      })
+      go (inr h) (inl k) =
+          let e' : min a e ≡ a = omega arith in
+          rw (lt-ltb x a h, e') (record {
+            is = more;
+            behind = h;
+            nearest = λ f i l. elim (only f i) [ inl p ↦ omega (arith, n .nearest f p l) | inr p ↦ omega arith ];
+          })
+      go (inr h) (inr k) =
+          let e' : min a e ≡ e = omega arith in
+          rw (lt-ltb x a h, e') (record {
+            is = still e (n .is);
+            behind = n .behind;
+            nearest = λ f i l. elim (only f i) [ inl p ↦ n .nearest f p l | inr p ↦ omega arith ];
+          })
 
-      go : (m .address ≤ x) ⊎ (x < m .address) → see s (m ∷ ms) x ≡ see s (m ∷ []) x
-      go (inl l) =
-          ap₂ shows (translate-here m ms x (l, h) ∙ sym (translate-here m [] x (l, h)))
-          (ap (λ (e : ℕ). bytesTo s e x) (runEnd-here (top s) m ms x (l, h) ∙ sym (runEnd-here (top s) m [] x (l, h))))
-      go (inr l) =
-          let e : runEnd (top s) (m ∷ ms) x ≡ runEnd (top s) (m ∷ []) x =
-          omega (arith, runEnd-before (top s) m ms x l, runEnd-before (top s) m [] x l, runEnd-none (top s) x, runEnd-behind (top s) (end m) x ms h a) in
-          let none : translate [] x ≡ Nothing = hides-all [] x (λ n i. absurd (List·Memᴰ·not-nil i)) in
-          let past : (ns : List Mapping) → translate (m ∷ ns) x ≡ translate ns x = λ ns. translate-past m ns x (λ i. omega arith) in
-          ap₂ shows (past ms ∙ hides-all ms x free ∙ sym (past [] ∙ none)) (ap (λ (e : ℕ). bytesTo s e x) e)
+module _ (s : Space) (ys : List Range) (ms : List Mapping) where
+  next-of : {x e : ℕ} → Next s ys ms x e → NextOf (Edge s ys ms) x e
+  next-of n = record { is = n .edge; behind = n .behind; nearest = n .nearest }
+
+  of-next : {x e : ℕ} → NextOf (Edge s ys ms) x e → Next s ys ms x e
+  of-next n = record { edge = n .is; behind = n .behind; nearest = n .nearest }
+
+  next-one : {x e f : ℕ} → Next s ys ms x e → Next s ys ms x f → e ≡ f
+  next-one {x} {e} {f} n k = omega (arith, n .nearest f (k .edge) (k .behind), k .nearest e (n .edge) (n .behind))
+
+-- with a mapping more, its address
+module _ (s : Space) (ys : List Range) (m : Mapping) (ms : List Mapping) where
+  still-mapping : (f : ℕ) → Edge s ys ms f → Edge s ys (m ∷ ms) f
+  still-mapping f (of-mapping n i e) = of-mapping n (List·Memᴰ·tail i) e
+  still-mapping f (of-start y i e) = of-start y i e
+  still-mapping f (of-end y i e) = of-end y i e
+  still-mapping f (of-space e) = of-space e
+
+  only-mapping : (f : ℕ) → Edge s ys (m ∷ ms) f → Edge s ys ms f ⊎ (f ≡ m .address)
+  only-mapping f (of-mapping n (List·Memᴰ·head d) e) = inr (e ∙ ap (λ (k : Mapping). k .address) d)
+  only-mapping f (of-mapping n (List·Memᴰ·tail i) e) = inl (of-mapping n i e)
+  only-mapping f (of-start y i e) = inl (of-start y i e)
+  only-mapping f (of-end y i e) = inl (of-end y i e)
+  only-mapping f (of-space e) = inl (of-space e)
+
+  next-mapping : (x e : ℕ) → Next s ys ms x e → Next s ys (m ∷ ms) x (nearer x (m .address) e)
+  next-mapping x e n =
+      of-next s ys (m ∷ ms)
+      (next-more (Edge s ys ms) (Edge s ys (m ∷ ms)) (m .address) still-mapping (of-mapping m (List·Memᴰ·head refl) refl) only-mapping x e (next-of s ys ms n))
+
+-- with a range more, its end and its start
+module _ (s : Space) (y : Range) (ys : List Range) (ms : List Mapping) where
+  abbrev WithEnd : ℕ → Type 0
+  WithEnd f = Edge s ys ms f ⊎ (f ≡ rangeEnd y)
+
+  still-range : (f : ℕ) → WithEnd f → Edge s (y ∷ ys) ms f
+  still-range f (inl (of-mapping n i e)) = of-mapping n i e
+  still-range f (inl (of-start z i e)) = of-start z (List·Memᴰ·tail i) e
+  still-range f (inl (of-end z i e)) = of-end z (List·Memᴰ·tail i) e
+  still-range f (inl (of-space e)) = of-space e
+  still-range f (inr e) = of-end y (List·Memᴰ·head refl) e
+
+  only-range : (f : ℕ) → Edge s (y ∷ ys) ms f → WithEnd f ⊎ (f ≡ y .start)
+  only-range f (of-mapping n i e) = inl (inl (of-mapping n i e))
+  only-range f (of-start z (List·Memᴰ·head d) e) = inr (e ∙ ap (λ (k : Range). k .start) d)
+  only-range f (of-start z (List·Memᴰ·tail i) e) = inl (inl (of-start z i e))
+  only-range f (of-end z (List·Memᴰ·head d) e) = inl (inr (e ∙ ap (λ (k : Range). rangeEnd k) d))
+  only-range f (of-end z (List·Memᴰ·tail i) e) = inl (inl (of-end z i e))
+  only-range f (of-space e) = inl (inl (of-space e))
+
+  next-range : (x e : ℕ) → Next s ys ms x e → Next s (y ∷ ys) ms x (nearer x (y .start) (nearer x (rangeEnd y) e))
+  next-range x e n =
+      of-next s (y ∷ ys) ms
+      (next-more WithEnd (Edge s (y ∷ ys) ms) (y .start) still-range (of-start y (List·Memᴰ·head refl) refl) only-range x (nearer x (rangeEnd y) e)
+      (next-more (Edge s ys ms) WithEnd (rangeEnd y) (λ f i. inl i) (inr refl) (λ f i. i) x e (next-of s ys ms n)))
+
+module _ (s : Space) (x : ℕ) (i : InSpace s x) where
+  next-ranges : (ys : List Range) → Next s ys [] x (nextEdge (top s) ys x)
+  unfolding nextEdge
+  next-ranges [] = record { edge = of-space refl; behind = i .1; nearest = nearest }
+    where
+      nearest : (f : ℕ) → Edge s [] [] f → x < f → top s ≤ f
+      nearest f (of-mapping n k e) l = absurd (List·Memᴰ·not-nil k)
+      nearest f (of-start y k e) l = absurd (List·Memᴰ·not-nil k)
+      nearest f (of-end y k e) l = absurd (List·Memᴰ·not-nil k)
+      nearest f (of-space e) l = omega arith
+  next-ranges (y ∷ ys) = next-range s y ys [] x _ (next-ranges ys)
+
+  next-free : (ys : List Range) (ms : List Mapping) → Free ms x → Next s ys ms x (offEnd s ys ms x)
+  next-free ys [] f = subst (Next s ys [] x) (sym (runEnd-none (nextEdge (top s) ys x) x)) (next-ranges ys)
+  next-free ys (m ∷ ms) f =
+      subst (Next s ys (m ∷ ms) x) (sym (runEnd-free (nextEdge (top s) ys x) m ms x f)) (next-mapping s ys m ms x _ (next-free ys ms (rest-free f)))
+
+  pub next-some : (ys : List Range) (ms : List Mapping) → (e : ℕ) × Next s ys ms x e
+  next-some ys [] = (nextEdge (top s) ys x, next-ranges ys)
+  next-some ys (m ∷ ms) = let n = next-some ys ms in (nearer x (m .address) (n .0), next-mapping s ys m ms x (n .0) (n .1))
+
+-- ── off mappings ──
+
+bare-in : (ys : List Range) (y : Range) (x : ℕ) → y ∈ ys → InRange y x → bare ys x ≡ Sparse
+unfolding bare
+bare-in (z ∷ ys) y x (List·Memᴰ·head e) b = let c : InRange z x = rw e at b in rw (all-true (inRangeTests z x) (omega tests), bare)
+bare-in (z ∷ ys) y x (List·Memᴰ·tail i) b = go (all (inRangeTests z x)) (bare-in ys y x i b)
+  where
+    go : (t : Bool) → bare ys x ≡ Sparse → choose t Sparse (bare ys x) ≡ Sparse
+    go true ih = refl
+    go false ih = ih
+
+-- two bytes that the same ranges have
+bare-same : (ys : List Range) (x z : ℕ) → ((y : Range) → y ∈ ys → (InRange y x → InRange y z) × (InRange y z → InRange y x)) → bare ys x ≡ bare ys z
+unfolding bare
+bare-same [] x z h = refl
+bare-same (y ∷ ys) x z h =
+    let k = h y (List·Memᴰ·head refl) in
+    ap₂ (λ (t : Bool) (v : Shown). choose t Sparse v)
+    (all-same (inRangeTests y x) (inRangeTests y z) (λ t. let b = k .0 (omega tests) in omega tests) (λ t. let b = k .1 (omega tests) in omega tests))
+    (bare-same ys x z (λ w i. h w (List·Memᴰ·tail i)))
+
+-- an offset alone is moved along
+along-bare : (n : ℕ) (ys : List Range) (x : ℕ) → along n (bare ys x) ≡ bare ys x
+unfolding bare
+along-bare n [] x = refl
+along-bare n (y ∷ ys) x = go (all (inRangeTests y x)) (along-bare n ys x)
+  where
+    go : (t : Bool) → along n (bare ys x) ≡ bare ys x → along n (choose t Sparse (bare ys x)) ≡ choose t Sparse (bare ys x)
+    go true ih = refl
+    go false ih = ih
 
 -- ── what decides ──
 
--- where x stands to a mapping
-data Stands (m : Mapping) (x : ℕ) : Type 0 where
-  before : x < m .address → Stands m x
-  inside : Has m x → Stands m x
-  behind : end m ≤ x → Stands m x
-
-stands : (m : Mapping) (x : ℕ) → Stands m x
-stands m x = go (order (m .address) x) (order (end m) x)
-  where
-    go : (m .address ≤ x) ⊎ (x < m .address) → (end m ≤ x) ⊎ (x < end m) → Stands m x
-    go (inr h) k = before h
-    go (inl h) (inr k) = inside (h, k)
-    go (inl h) (inl k) = behind k
-
 -- what is seen at an address in the space, by what decides it
-data Sight (s : Space) (ms : List Mapping) (x : ℕ) : Seen → Type 0 where
-  of-mapping : (m : Mapping) → m ∈ ms → Has m x → Sight s ms x (bytes-of m x)
-  of-next : (m : Mapping) → Free ms x → Next ms x m → Sight s ms x (nothing (m .address - x))
-  of-end : ((m : Mapping) → m ∈ ms → end m ≤ x) → Sight s ms x (nothing (top s - x))
+pub data Sight (s : Space) (ys : List Range) (ms : List Mapping) (x : ℕ) : Seen → Type 0 where
+  in-mapping : (m : Mapping) → m ∈ ms → Has m x → Sight s ys ms x (bytes-of m x)
+  off-mappings : Free ms x → (e : ℕ) → Next s ys ms x e → Sight s ys ms x (shows (bare ys x) (e - x))
 
--- a mapping in front that ends at or before x changes nothing
-sight-past : (s : Space) (m : Mapping) (ms : List Mapping) (x : ℕ) (v : Seen) → end m ≤ x → Sight s ms x v → Sight s (m ∷ ms) x v
-sight-past s m ms x _ h (of-mapping n i b) = of-mapping n (List·Memᴰ·tail i) b
-sight-past s m ms x _ h (of-next n f k) = of-next n free (record { member = List·Memᴰ·tail (k .member); behind = k .behind; nearest = nearest })
-  where
-    free : Free (m ∷ ms) x
-    free o (List·Memᴰ·head e) b = let c : Has m x = rw e at b in omega arith
-    free o (List·Memᴰ·tail i) b = f o i b
-
-    nearest : (o : Mapping) → o ∈ (m ∷ ms) → x < o .address → n .address ≤ o .address
-    nearest o (List·Memᴰ·head e) l = absurd (omega (arith, ap (λ (k : Mapping). k .address) e))
-    nearest o (List·Memᴰ·tail i) l = k .nearest o i l
-sight-past s m ms x _ h (of-end k) = of-end all
-  where
-    all : (o : Mapping) → o ∈ (m ∷ ms) → end o ≤ x
-    all o (List·Memᴰ·head e) = omega (arith, ap (λ (k : Mapping). end k) e)
-    all o (List·Memᴰ·tail i) = k o i
-
-pub see-none : (s : Space) (x : ℕ) → InSpace s x → see s [] x ≡ nothing (top s - x)
-unfolding translate runEnd
-see-none s x i = ap nothing (bytes-inside s x i (top s))
-
--- x inside a mapping in front of others
-pub see-inside : (s : Space) (m : Mapping) (ms : List Mapping) (x : ℕ) → InSpace s x → Has m x
-    → see s (m ∷ ms) x ≡ bytes-of m x
-see-inside s m ms x i b =
-    ap₂ shows (translate-here m ms x b)
-    (bytes-inside s x i (runEnd (top s) (m ∷ ms) x) ∙ ap (λ (e : ℕ). e - x) (runEnd-here (top s) m ms x b))
-
--- a mapping in front of others that start at its end or behind it, and x before it
-module _ (s : Space) (m : Mapping) (ms : List Mapping) (x : ℕ) (a : Each (λ n. end m ≤ n .address) ms) (h : x < m .address) where
-  starts : (n : Mapping) → n ∈ ms → end m ≤ n .address
-  starts n k = each-mem (λ n. end m ≤ n .address) ms n a k
-
-  free-before : Free (m ∷ ms) x
-  free-before n (List·Memᴰ·head e) b = omega (arith, ap (λ (k : Mapping). k .address) e)
-  free-before n (List·Memᴰ·tail k) b = omega (arith, starts n k)
-
-  next-first : Next (m ∷ ms) x m
-  next-first = record { member = List·Memᴰ·head refl; behind = h; nearest = nearest }
-    where
-      nearest : (n : Mapping) → n ∈ (m ∷ ms) → x < n .address → m .address ≤ n .address
-      nearest n (List·Memᴰ·head e) l = omega (arith, ap (λ (k : Mapping). k .address) e)
-      nearest n (List·Memᴰ·tail k) l = omega (arith, starts n k)
-
-  pub see-before : InSpace s x → end m ≤ top s → see s (m ∷ ms) x ≡ nothing (m .address - x)
-  see-before i k =
-      let e : runEnd (top s) (m ∷ ms) x ≡ m .address = omega (arith, runEnd-before (top s) m ms x h, runEnd-behind (top s) (end m) x ms (omega arith) a) in
-      ap₂ shows (hides-all (m ∷ ms) x free-before) (bytes-inside s x i (runEnd (top s) (m ∷ ms) x) ∙ ap (λ (e : ℕ). e - x) e)
-
-sees : (s : Space) (ms : List Mapping) (x : ℕ) → TableRules s ms → InSpace s x → Sight s ms x (see s ms x)
-sees s [] x r i = subst (Sight s [] x) (sym (see-none s x i)) (of-end (λ m k. absurd (List·Memᴰ·not-nil k)))
-sees s (m ∷ ms) x r i = go (stands m x) (sees s ms x (r .0 .1, r .1 .1) i)
-  where
-    go : Stands m x → Sight s ms x (see s ms x) → Sight s (m ∷ ms) x (see s (m ∷ ms) x)
-    go (before h) ih =
-        subst (Sight s (m ∷ ms) x) (sym (see-before s m ms x (r .1 .0) h i (r .0 .0 .within .1)))
-        (of-next m (free-before s m ms x (r .1 .0) h) (next-first s m ms x (r .1 .0) h))
-    go (inside b) ih = subst (Sight s (m ∷ ms) x) (sym (see-inside s m ms x i b)) (of-mapping m (List·Memᴰ·head refl) b)
-    go (behind h) ih = rw (see-past s m ms x h) (sight-past s m ms x _ h ih)
-
--- ── case by case ──
-
--- no two mappings have the same byte
-one-has : (ms : List Mapping) (m n : Mapping) (x : ℕ) → Ascends ms → m ∈ ms → n ∈ ms → Has m x → Has n x → m ≡ n
-one-has (k ∷ ms) m n x a (List·Memᴰ·head d) (List·Memᴰ·head e) b c = d ∙ sym e
-one-has (k ∷ ms) m n x a (List·Memᴰ·head d) (List·Memᴰ·tail j) b c =
-    absurd (omega (arith, each-mem (λ o. end k ≤ o .address) ms n (a .0) j, ap (λ (o : Mapping). end o) d))
-one-has (k ∷ ms) m n x a (List·Memᴰ·tail i) (List·Memᴰ·head e) b c =
-    absurd (omega (arith, each-mem (λ o. end k ≤ o .address) ms m (a .0) i, ap (λ (o : Mapping). end o) e))
-one-has (k ∷ ms) m n x a (List·Memᴰ·tail i) (List·Memᴰ·tail j) b c = one-has ms m n x (a .1) i j b c
-
-module _ (s : Space) (ms : List Mapping) (r : TableRules s ms) where
+module _ (s : Space) (ys : List Range) (ms : List Mapping) (q : Each (RangeRules s) ys) (r : TableRules s ms) where
   within : (m : Mapping) → m ∈ ms → MappingRules s m
   within m i = each-mem (MappingRules s) ms m (r .0) i
 
-  seen : (x : ℕ) → InSpace s x → Sight s ms x (see s ms x)
-  seen x i = sees s ms x r i
+  range-within : (y : Range) → y ∈ ys → RangeRules s y
+  range-within y i = each-mem (RangeRules s) ys y q i
 
-  see-mapped : (x : ℕ) (m : Mapping) → m ∈ ms → Has m x → see s ms x ≡ bytes-of m x
-  see-mapped x m i b = go (seen x (omega (arith, within m i .within .0), omega (arith, within m i .within .1)))
+  pub sees : (x : ℕ) → InSpace s x → Sight s ys ms x (see s ys ms x)
+  sees x i = go (has-or-free ms x)
     where
-      go : {v : Seen} → Sight s ms x v → v ≡ bytes-of m x
-      go (of-mapping n j c) = rw (one-has ms n m x (r .1) j i c b)
-      go (of-next n f k) = absurd (f m i b)
-      go (of-end k) = absurd (omega (arith, k m i))
+      go : ((m : Mapping) × m ∈ ms × Has m x) ⊎ Free ms x → Sight s ys ms x (see s ys ms x)
+      go (inl (m, k, b)) = subst (Sight s ys ms x) (sym (see-member s ys ms m x (r .1) i k b)) (in-mapping m k b)
+      go (inr f) = subst (Sight s ys ms x) (sym (see-free s ys ms x i f)) (off-mappings f (offEnd s ys ms x) (next-free s x i ys ms f))
 
-  see-next : (x : ℕ) → InSpace s x → Free ms x → (m : Mapping) → Next ms x m → see s ms x ≡ nothing (m .address - x)
-  see-next x i f m k = go (seen x i)
-    where
-      go : {v : Seen} → Sight s ms x v → v ≡ nothing (m .address - x)
-      go (of-mapping n j c) = absurd (f n j c)
-      go (of-next n g l) = ap (λ (a : ℕ). nothing (a - x)) (omega (arith, k .nearest n (l .member) (l .behind), l .nearest m (k .member) (k .behind)))
-      go (of-end l) = absurd (omega (arith, k .behind, l m (k .member)))
+  -- ── case by case ──
 
-  see-end : (x : ℕ) → InSpace s x → ((m : Mapping) → m ∈ ms → end m ≤ x) → see s ms x ≡ nothing (top s - x)
-  see-end x i k = go (seen x i)
-    where
-      go : {v : Seen} → Sight s ms x v → v ≡ nothing (top s - x)
-      go (of-mapping n j c) = absurd (omega (arith, k n j))
-      go (of-next n g l) = absurd (omega (arith, l .behind, k n (l .member)))
-      go (of-end l) = refl
+  see-mapped : (x : ℕ) (m : Mapping) → m ∈ ms → Has m x → see s ys ms x ≡ bytes-of m x
+  see-mapped x m i b = see-member s ys ms m x (r .1) (omega (arith, within m i .within .0), omega (arith, within m i .within .1)) i b
 
-  pub see-outside : (x : ℕ) → (InSpace s x → ⊥) → see s ms x ≡ nothing 0
-  see-outside x n = ap₂ shows (hides-all ms x (λ m i b. n (omega (arith, within m i .within .0), omega (arith, within m i .within .1)))) (bytes-outside s x n _)
+  see-next : (x : ℕ) → InSpace s x → Free ms x → (e : ℕ) → Next s ys ms x e → see s ys ms x ≡ shows (bare ys x) (e - x)
+  see-next x i f e n =
+      see-free s ys ms x i f ∙ ap (λ (k : ℕ). shows (bare ys x) (k - x)) (next-one s ys ms (next-free s x i ys ms f) n)
 
-  tells : (x : ℕ) → Tells s ms x (see s ms x)
-  tells x = record { mapped = see-mapped x; before-next = see-next x; behind-all = see-end x; outside = see-outside x }
+  tells : (x : ℕ) → Tells s ys ms x (see s ys ms x)
+  tells x = record {
+    mapped = see-mapped x;
+    sparse = λ i f y k b e n. see-next x i f e n ∙ ap (λ (v : Shown). shows v (e - x)) (bare-in ys y x k b);
+    bare = λ i f none e n. see-next x i f e n ∙ ap (λ (v : Shown). shows v (e - x)) (bare-none ys x none);
+    outside = see-outside s ys ms q r x;
+  }
 
   -- ── what it is good for ──
 
-  some : (x : ℕ) → InSpace s x → (1 ≤ see s ms x .bytes) × (x + see s ms x .bytes ≤ top s)
-  some x i = go (seen x i)
-    where
-      go : {v : Seen} → Sight s ms x v → (1 ≤ v .bytes) × (x + v .bytes ≤ top s)
-      go (of-mapping n j c) = (omega arith, omega (arith, within n j .within .1))
-      go (of-next n g l) = (omega (arith, l .behind), omega (arith, l .behind, within n (l .member) .within .1))
-      go (of-end l) = (omega arith, omega arith)
+  pub edge-most : (e : ℕ) → Edge s ys ms e → e ≤ top s
+  edge-most e (of-mapping m i d) = omega (arith, within m i .within .1)
+  edge-most e (of-start y i d) = omega (arith, range-within y i .within .1)
+  edge-most e (of-end y i d) = omega (arith, range-within y i .within .1)
+  edge-most e (of-space d) = omega arith
 
-  stops : (x : ℕ) → InSpace s x → (x + see s ms x .bytes ≡ top s) ⊎ ((m : Mapping) × m ∈ ms × Parts m x (x + see s ms x .bytes))
-  stops x i = go (seen x i)
+  some : (x : ℕ) → InSpace s x → (1 ≤ see s ys ms x .bytes) × (x + see s ys ms x .bytes ≤ top s)
+  some x i = go (sees x i)
     where
-      go : {v : Seen} → Sight s ms x v → (x + v .bytes ≡ top s) ⊎ ((m : Mapping) × m ∈ ms × Parts m x (x + v .bytes))
-      go (of-mapping n j c) = inr (n, j, inl (c, λ b. omega arith))
-      go (of-next n g l) =
-          let h = l .behind in
-          inr (n, l .member, inr (λ b. omega arith, (omega arith, omega (arith, within n (l .member) .size-least))))
-      go (of-end l) = inl (omega arith)
+      go : {v : Seen} → Sight s ys ms x v → (1 ≤ v .bytes) × (x + v .bytes ≤ top s)
+      go (in-mapping m j c) = (omega arith, omega (arith, within m j .within .1))
+      go (off-mappings f e n) = (omega (arith, n .behind), omega (arith, n .behind, edge-most e (n .edge)))
 
-  same : (x y : ℕ) → y < see s ms x .bytes → see s ms (x + y) ≡ shows (along y (see s ms x .shown)) (see s ms x .bytes - y)
-  same x y h = pick (order (s .start) x) (order (top s) x)
+  abbrev Stops : ℕ → ℕ → Type 0
+  Stops x e = (e ≡ top s) ⊎ (((m : Mapping) × m ∈ ms × Parts m x e) ⊎ ((y : Range) × y ∈ ys × RangeParts y x e))
+
+  -- a range that ends at the next edge has x: its start is no edge behind x
+  at-edge : (x e : ℕ) → Next s ys ms x e → Edge s ys ms e → Stops x e
+  at-edge x e n (of-mapping m i d) =
+      let h = n .behind in
+      inr (inl (m, i, inr (λ b. omega arith, (omega arith, omega (arith, within m i .size-least)))))
+  at-edge x e n (of-start y i d) =
+      let h = n .behind in
+      inr (inr (y, i, inr (λ b. omega arith, (omega arith, omega (arith, range-within y i .not-empty)))))
+  at-edge x e n (of-end y i d) = go (order (y .start) x)
     where
-      go : {v : Seen} → InSpace s x → Sight s ms x v → y < v .bytes → see s ms (x + y) ≡ shows (along y (v .shown)) (v .bytes - y)
-      go i (of-mapping n j c) l = see-mapped (x + y) n j (omega arith, omega arith) ∙ ap₂ (λ (f b : ℕ). shows (Object (n .object) f) b) (omega arith) (omega arith)
-      go i (of-next n g k) l =
-          see-next (x + y) (omega arith, omega (arith, k .behind, within n (k .member) .within .1)) free n
-          (record { member = k .member; behind = omega (arith, k .behind); nearest = λ o j z. k .nearest o j (omega arith) })
-          ∙ ap nothing (omega arith)
-        where
-          free : Free ms (x + y)
-          free o j b = at (order (o .address) x)
-            where
-              at : (o .address ≤ x) ⊎ (x < o .address) → ⊥
-              at (inl z) = g o j (z, omega arith)
-              at (inr z) = omega (arith, k .nearest o j z, k .behind)
-      go i (of-end k) l = see-end (x + y) (omega arith, omega arith) (λ m j. omega (arith, k m j)) ∙ ap nothing (omega arith)
+      go : (y .start ≤ x) ⊎ (x < y .start) → Stops x e
+      go (inl l) = let h = n .behind in inr (inr (y, i, inl ((l, omega arith), λ b. omega arith)))
+      go (inr l) = absurd (omega (arith, n .nearest (y .start) (of-start y i refl) l, range-within y i .not-empty))
+  at-edge x e n (of-space d) = inl d
 
-      pick : (s .start ≤ x) ⊎ (x < s .start) → (top s ≤ x) ⊎ (x < top s) → see s ms (x + y) ≡ shows (along y (see s ms x .shown)) (see s ms x .bytes - y)
-      pick (inl a) (inr b) = go (a, b) (seen x (a, b)) h
-      pick (inl a) (inl b) = absurd (omega (arith, h, ap (λ (v : Seen). v .bytes) (see-outside x (λ i. omega arith))))
-      pick (inr a) b = absurd (omega (arith, h, ap (λ (v : Seen). v .bytes) (see-outside x (λ i. omega arith))))
+  stops : (x : ℕ) → InSpace s x → Stops x (x + see s ys ms x .bytes)
+  stops x i = go (sees x i)
+    where
+      go : {v : Seen} → Sight s ys ms x v → Stops x (x + v .bytes)
+      go (in-mapping m j c) = inr (inl (m, j, inl (c, λ b. omega arith)))
+      go (off-mappings f e n) =
+          let d : e ≡ x + (e - x) = omega (arith, n .behind) in
+          subst (Stops x) d (at-edge x e n (n .edge))
+
+  -- before the next edge, no mapping and the same ranges
+  module _ (x z e : ℕ) (n : Next s ys ms x e) (low : x ≤ z) (high : z < e) where
+    next-on : Next s ys ms z e
+    next-on = record { edge = n .edge; behind = high; nearest = λ f i l. n .nearest f i (omega arith) }
+
+    free-on : Free ms x → Free ms z
+    free-on f m i b = at (order (m .address) x)
+      where
+        at : (m .address ≤ x) ⊎ (x < m .address) → ⊥
+        at (inl l) = f m i (l, omega arith)
+        at (inr l) = omega (arith, n .nearest (m .address) (of-mapping m i refl) l)
+
+    bare-on : bare ys z ≡ bare ys x
+    bare-on = bare-same ys z x (λ y i. (λ b. at y i b (order (y .start) x), λ b. (omega arith, ends y i b (order (rangeEnd y) z))))
+      where
+        at : (y : Range) → y ∈ ys → InRange y z → (y .start ≤ x) ⊎ (x < y .start) → InRange y x
+        at y i b (inl l) = (l, omega arith)
+        at y i b (inr l) = absurd (omega (arith, n .nearest (y .start) (of-start y i refl) l))
+
+        ends : (y : Range) → y ∈ ys → InRange y x → (rangeEnd y ≤ z) ⊎ (z < rangeEnd y) → z < rangeEnd y
+        ends y i b (inl l) = absurd (omega (arith, n .nearest (rangeEnd y) (of-end y i refl) (b .1)))
+        ends y i b (inr l) = l
+
+  same : (x y : ℕ) → y < see s ys ms x .bytes → see s ys ms (x + y) ≡ shows (along y (see s ys ms x .shown)) (see s ys ms x .bytes - y)
+  same x y h = pick (inside-or-not s x)
+    where
+      go : {v : Seen} → InSpace s x → Sight s ys ms x v → y < v .bytes → see s ys ms (x + y) ≡ shows (along y (v .shown)) (v .bytes - y)
+      go i (in-mapping m j c) l = see-mapped (x + y) m j (omega arith, omega arith) ∙ ap₂ (λ (f b : ℕ). shows (Object (m .object) f) b) (omega arith) (omega arith)
+      go i (off-mappings f e n) l =
+          let low : x ≤ x + y = omega arith in
+          let high : x + y < e = omega arith in
+          see-next (x + y) (omega arith, omega (arith, edge-most e (n .edge))) (free-on x (x + y) e n low high f) e (next-on x (x + y) e n low high)
+          ∙ ap₂ shows (bare-on x (x + y) e n low high ∙ sym (along-bare y ys x)) (omega arith)
+
+      pick : InSpace s x ⊎ (InSpace s x → ⊥) → see s ys ms (x + y) ≡ shows (along y (see s ys ms x .shown)) (see s ys ms x .bytes - y)
+      pick (inl i) = go i (sees x i) h
+      pick (inr n) = absurd (omega (arith, h, ap (λ (v : Seen). v .bytes) (see-outside s ys ms q r x n)))
 
 -- ── the public call ──
 
--- where one look-up is answered, the table keeps its rules, and every look-up is answered
-module _ (s : Space) (t : Table) (x : ℕ) (v : Seen) (e : lookup s t x ≡ answered v) where
-  passed : Passed (tableRows s [] t) × (v ≡ see s (mappings t) x)
+-- where one look-up is answered, table and list keep their rules, and every look-up is answered
+module _ (s : Space) (l : Lent) (x : ℕ) (v : Seen) (e : lookup s l x ≡ answered v) where
+  passed : Passed (lentRows s [] l) × (v ≡ seeIn s l x)
   unfolding lookup
-  passed = answered-passed (tableRows s [] t) (see s (mappings t) x) v e
+  passed = answered-passed (lentRows s [] l) (seeIn s l x) v e
 
-  pub answered-rules : TableRules s (mappings t)
-  answered-rules = table-says s (mappings t) .0 (table-passed s [] t (passed .0) .places)
+  pub answered-rules : TableRules s (mappings (l .table))
+  answered-rules = table-says s (mappings (l .table)) .0 (lent-passed s [] l (passed .0) .table .places)
 
-  pub answered-all : (y : ℕ) → lookup s t y ≡ answered (see s (mappings t) y)
+  pub answered-ranges : Each (RangeRules s) (ranges (l .ranges))
+  answered-ranges = list-row-says s (l .ranges) .0 (lent-passed s [] l (passed .0) .list) .each-range
+
+  pub answered-all : (y : ℕ) → lookup s l y ≡ answered (seeIn s l y)
   unfolding lookup
-  answered-all y = passes (tableRows s [] t) (see s (mappings t) y) (passed .0)
+  answered-all y = passes (lentRows s [] l) (seeIn s l y) (passed .0)
 
-  tells-answer : Tells s (mappings t) x v × GoesOn s t x v
+  tells-answer : Tells s (ranges (l .ranges)) (mappings (l .table)) x v × GoesOn s l x v
   tells-answer =
+      let ys : List Range = ranges (l .ranges) in
+      let ms : List Mapping = mappings (l .table) in
+      let q = answered-ranges in
       let r = answered-rules in (
-        subst (Tells s (mappings t) x) (sym (passed .1)) (tells s (mappings t) r x),
-        subst (GoesOn s t x) (sym (passed .1)) (record {
-          same = λ y h. answered-all (x + y) ∙ ap answered (same s (mappings t) r x y h);
-          some = some s (mappings t) r x;
-          stops = stops s (mappings t) r x;
+        subst (Tells s ys ms x) (sym (passed .1)) (tells s ys ms q r x),
+        subst (GoesOn s l x) (sym (passed .1)) (record {
+          same = λ y h. answered-all (x + y) ∙ ap answered (same s ys ms q r x y h);
+          some = some s ys ms q r x;
+          stops = stops s ys ms q r x;
+          next = λ i. next-some s x i ys ms;
         }),
       )
 
 pub lookup-tells : Lookup
-lookup-tells s t x v e = tells-answer s t x v e
+lookup-tells s l x v e = tells-answer s l x v e

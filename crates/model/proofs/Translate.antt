@@ -15,7 +15,7 @@ use Rattle.model.proofs.Actions.{each-mem}
 use Rattle.model.proofs.Window.{prepend-pos, prepend-append}
 use Rattle.model.proofs.Numbers.{order}
 
-has-or-not : (m : Mapping) (x : ℕ) → Has m x ⊎ (Has m x → ⊥)
+pub has-or-not : (m : Mapping) (x : ℕ) → Has m x ⊎ (Has m x → ⊥)
 has-or-not m x = go (order (m .address) x) (order (end m) x)
   where
     go : (m .address ≤ x) ⊎ (x < m .address) → (end m ≤ x) ⊎ (x < end m) → Has m x ⊎ (Has m x → ⊥)
