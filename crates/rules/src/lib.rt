@@ -1,6 +1,7 @@
-// The rules of a space, a mapping and a request, for any 64-bit numbers: each function is the model's tests, in their order. Sums are
-// compared exactly, and none is made that could wrap.
+// The rules of a space, a mapping, a sparse range and a request, for any 64-bit numbers: each function is the model's
+// tests, in their order. Sums are compared exactly, and none is made that could wrap.
 use model::Mapping;
+use model::Range;
 use model::Refusal;
 use model::Request;
 use model::Space;
@@ -9,8 +10,9 @@ ghost use mathlib.Core.Path.{_≡_};
 ghost use Prim.Native.Nat.{_+_, min, max};
 ghost use lib.Dec.{leb};
 ghost use Rattle.model.specs.Rows.{all, choose, verdict};
-ghost use Rattle.model.specs.Rules.{aligned, apart, spaceTests, formRows, requestRows, alignmentRow, insideRow, objectRow, offsetRow};
+ghost use Rattle.model.specs.Rules.{sparseFlag, aligned, apart, spaceTests, formRows, requestRows, alignmentRow, insideRow, objectRow, offsetRow};
 ghost use Rattle.model.specs.Table.{fitTests};
+ghost use Rattle.model.specs.Ranges.{rangeTests};
 ghost use Rattle.model.specs.Calls.{numbered, verdictReply};
 
 const PAGE: u64 = 4096;
@@ -19,6 +21,9 @@ const PAGE: u64 = 4096;
 pub const LIMIT: u64 = 0x1_0000_0000_0000;
 
 pub const LAST_OBJECT: u64 = 0xffff_ffff;
+
+// The flag of a request for a sparse range.
+pub const SPARSE: u64 = 256;
 
 pub fn is_aligned(x: u64) -> bool
     ensures { λ t. ⌜ t ≡ aligned x ⌝ }
@@ -114,6 +119,19 @@ pub fn mapping_fits(s: Space, from: u64, m: Mapping) -> bool
         & are_apart(m.address, m.size, s.reserved.start, s.reserved.size)
 }
 
+// The sparse range keeps its rules, and starts at `from` or behind.
+pub fn range_fits(s: Space, from: u64, x: Range) -> bool
+    ensures { λ t. ⌜ t ≡ all (rangeTests s from x) ⌝ }
+{
+    (from <= x.start)
+        & is_aligned(x.start)
+        & is_aligned(x.size)
+        & (0 < x.size)
+        & (s.start <= x.start)
+        & sum_at_most(x.start, x.size, s.start, s.size)
+        & are_apart(x.start, x.size, s.reserved.start, s.reserved.size)
+}
+
 fn range_is_aligned(r: Request) -> bool
     ensures { λ t. ⌜ t ≡ all (alignmentRow r .tests) ⌝ }
 {
@@ -129,7 +147,7 @@ fn range_is_inside(s: Space, r: Request) -> bool
 fn object_is_right(r: Request) -> bool
     ensures { λ t. ⌜ t ≡ all (objectRow r .tests) ⌝ }
 {
-    if r.op == 0 {
+    if (r.op == 0) & (r.flags == 0) {
         return (1 <= r.object) & (r.object <= LAST_OBJECT);
     }
     (r.object == 0) & (r.offset == 0)
@@ -146,12 +164,12 @@ fn offset_is_right(r: Request) -> bool
 
 // Rows 13 and 14: the form of a request.
 pub fn form_verdict(r: Request) -> Verdict
-    ensures { λ v. ⌜ verdictReply v ≡ verdict (formRows r) ⌝ }
+    ensures { λ v. ⌜ verdictReply v ≡ verdict (formRows sparseFlag r) ⌝ }
 {
     if 1 < r.op {
         return Verdict::Refuse(Refusal::BadOp);
     }
-    if (r.flags == 0) & (r.pad == 0) {
+    if ((r.flags == 0) | (r.flags == SPARSE)) & (r.pad == 0) {
         return Verdict::Pass;
     }
     Verdict::Refuse(Refusal::BadFlags)
@@ -199,6 +217,9 @@ pub fn refusal_number(w: Refusal) -> u32
         Refusal::BadOp => 13,
         Refusal::BadFlags => 14,
         Refusal::StaleWords => 17,
+        Refusal::BadRanges => 18,
+        Refusal::RangeOverlaps => 19,
+        Refusal::NoSuchRange => 20,
     }
 }
 
@@ -222,5 +243,8 @@ pub fn refusal_place(w: Refusal) -> usize
         Refusal::BadOp => 0,
         Refusal::BadFlags => 0,
         Refusal::StaleWords => 0,
+        Refusal::BadRanges => 0,
+        Refusal::RangeOverlaps => 0,
+        Refusal::NoSuchRange => 0,
     }
 }

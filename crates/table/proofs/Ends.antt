@@ -8,13 +8,14 @@ use native.Mathlib.Omega.{arith}
 use lib.ListN.{length, getD, take, drop}
 use borrow.Author.Tests.{le-ltb, ltb-true, ltb-false}
 use Rattle.model.specs.declared.Mapping.{Mapping}
+use Rattle.model.specs.declared.Range.{Range}
 use Rattle.model.specs.declared.Space.{Space}
 use Rattle.model.specs.Rows.{choose}
 use Rattle.model.specs.Rules.{end}
 use Rattle.model.specs.Cut.{see}
 use Rattle.model.specs.Exactly.{Each, Ascends}
 use Rattle.model.proofs.Actions.{each-map}
-use Rattle.model.proofs.Lookups.{see-past, see-front}
+use Rattle.model.proofs.See.{see-past, see-front}
 use Rattle.table.specs.Places.{firstWhere, endsBehind}
 use Rattle.table.proofs.First.{first-before}
 use Rattle.table.proofs.Places.{each-at}
@@ -47,12 +48,13 @@ module _ (x : ℕ) where
       go false q ih = ih
 
   -- those before the first that ends behind x end too early, and those behind it start too late
-  pub first-sees : (s : Space) (ms : List Mapping) → Ascends ms → see s (take 1 (drop (firstWhere (endsBehind x) ms) ms)) x ≡ see s ms x
+  pub first-sees : (s : Space) (ys : List Range) (ms : List Mapping) → Ascends ms
+      → see s ys (take 1 (drop (firstWhere (endsBehind x) ms) ms)) x ≡ see s ys ms x
   unfolding firstWhere
-  first-sees s [] a = refl
-  first-sees s (m ∷ ms) a = go (endsBehind x m) refl (first-sees s ms (a .1))
+  first-sees s ys [] a = refl
+  first-sees s ys (m ∷ ms) a = go (endsBehind x m) refl (first-sees s ys ms (a .1))
     where
-      go : (b : Bool) → endsBehind x m ≡ b → see s (take 1 (drop (firstWhere (endsBehind x) ms) ms)) x ≡ see s ms x
-          → see s (take 1 (drop (choose b 0 (suc (firstWhere (endsBehind x) ms))) (m ∷ ms))) x ≡ see s (m ∷ ms) x
-      go true q ih = sym (see-front s m ms x (a .0) (ltb-true x (end m) q))
-      go false q ih = ih ∙ sym (see-past s m ms x (ltb-false x (end m) q))
+      go : (b : Bool) → endsBehind x m ≡ b → see s ys (take 1 (drop (firstWhere (endsBehind x) ms) ms)) x ≡ see s ys ms x
+          → see s ys (take 1 (drop (choose b 0 (suc (firstWhere (endsBehind x) ms))) (m ∷ ms))) x ≡ see s ys (m ∷ ms) x
+      go true q ih = sym (see-front s ys m ms x (a .0) (ltb-true x (end m) q))
+      go false q ih = ih ∙ sym (see-past s ys m ms x (ltb-false x (end m) q))

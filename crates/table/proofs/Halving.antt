@@ -151,7 +151,7 @@ module _ (ms : List Mapping) (x : ℕ) where
         first = i;
         before = rw i (ends-before ms x);
         behind = rw i (ends-behind x ms a);
-        sees = λ space. rw i (first-sees x space ms a);
+        sees = λ space ys. rw i (first-sees x space ys ms a);
       }
 
   pub finds : Ascends ms → Finds ms x (halving ms x)

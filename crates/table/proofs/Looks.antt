@@ -1,4 +1,4 @@
--- The search by halves in the words of a table that passed its check, and what the place that it finds is good for.
+-- The search by halves as a loop over words goes, and the place that it finds in a table that passed its check.
 -- Assumes nothing.
 use mathlib.Core.Path.{_≡_, sym, ap, subst, _∙_}
 use mathlib.Core.List.{List}
@@ -6,62 +6,79 @@ use Prim.Native.Nat.{ℕ, _^_, _≤_, _<_}
 use native.Mathlib.Omega.{arith}
 use lib.ListN.{length, drop}
 use Rattle.model.specs.declared.Mapping.{Mapping}
-use Rattle.model.specs.Rules.{end}
+use Rattle.model.specs.Rules.{limit, end}
 use Rattle.model.specs.Table.{mappingsIn}
-use Rattle.model.specs.Exactly.{Each}
+use Rattle.model.specs.Exactly.{Each, Ascends, MappingRules}
+use Rattle.model.proofs.Actions.{each-map}
 use Rattle.model.proofs.Store.{length-mappings}
 use Rattle.table.specs.declared.Search.{Search}
 use Rattle.table.specs.Places.{mappingAt, firstWhere, endsBehind, Valid}
 use Rattle.table.specs.Halving.{binaryDigits, whole, middle, halved, at, halving, Halvable}
-use Rattle.table.proofs.Places.{at-place, from-place, valid-ascends, valid-at}
+use Rattle.table.proofs.Places.{at-place, from-place, each-at, valid-rules, valid-ascends}
 use Rattle.table.proofs.First.{first-most}
 use Rattle.table.proofs.Ends.{ends-behind}
 use Rattle.table.proofs.Digits.{binary-digits}
 use Rattle.table.proofs.Halving.{finds, Left, left-start, left-end, left-some, left-next}
 
-module _ {ws : List ℕ} {n : ℕ} (v : Valid ws n) (x : ℕ) where
-  abbrev ms : List Mapping
-  ms = mappingsIn n ws
+-- ── the loop ──
 
-  abbrev first : ℕ
-  first = firstWhere (endsBehind x) ms
+-- n mappings that can be searched: ends ascend, and none is large
+pub record InOrder (ms : List Mapping) (n : ℕ) : Type 0 where
+  pub many : length ms ≡ n
+  pub ascends : Ascends ms
+  pub ends-most : Each (λ m. end m ≤ limit) ms
 
-  pub first-place : first ≤ n
-  first-place = omega (arith, first-most (endsBehind x) ms, length-mappings n ws)
-
-  -- ── the loop ──
-
+module _ {ms : List Mapping} {n : ℕ} (o : InOrder ms n) (x : ℕ) where
   pub looks-start : Left ms x (whole n)
-  looks-start = subst (λ (k : ℕ). Left ms x (whole k)) (length-mappings n ws) (left-start ms x)
+  looks-start = subst (λ (k : ℕ). Left ms x (whole k)) (o .many) (left-start ms x)
 
   module _ {s : Search} (g : Left ms x s) where
     pub looks-place : s .lo < s .hi → middle s < n
-    looks-place h = omega (arith, g .within .most, length-mappings n ws)
+    looks-place h = omega (arith, g .within .most, o .many)
 
-    module _ (h : s .lo < s .hi) {m : Mapping} (e : m ≡ mappingAt ws (middle s)) where
-      looked : at ms (middle s) ≡ m
-      looked = at-place n ws (middle s) _ (looks-place h) ∙ sym e
-
+    module _ (h : s .lo < s .hi) {m : Mapping} (e : at ms (middle s) ≡ m) where
       pub looks-halvable : n < 2 ^ 64 → Halvable s m
       looks-halvable l =
-          let d : binaryDigits (length ms) ≤ 64 = binary-digits (length ms) 64 .1 (rw (length-mappings n ws) l) in
-          record { left = h; few = omega (arith, left-some ms x g h); end-most = valid-at v (middle s) (looks-place h) e .0 }
+          let d : binaryDigits (length ms) ≤ 64 = binary-digits (length ms) 64 .1 (rw (o .many) l) in
+          let t : end (at ms (middle s)) ≤ limit = each-at (λ k. end k ≤ limit) ms (middle s) _ (o .ends-most) (omega (arith, g .within .most)) in
+          record { left = h; few = omega (arith, left-some ms x g h); end-most = rw e at t }
 
       pub looks-next : {r : Search} → r ≡ halved x m s → Left ms x r
-      looks-next {r} q = subst (Left ms x) (ap (λ (k : Mapping). halved x k s) looked ∙ sym q) (left-next ms x g h (valid-ascends v))
+      looks-next {r} q = subst (Left ms x) (ap (λ (k : Mapping). halved x k s) e ∙ sym q) (left-next ms x g h (o .ascends))
 
     pub looks-end : s .hi ≤ s .lo → (s ≡ halving ms x) × (s .looks ≤ binaryDigits n)
     looks-end h =
-        let d : binaryDigits (length ms) ≡ binaryDigits n = ap binaryDigits (length-mappings n ws) in
+        let d : binaryDigits (length ms) ≡ binaryDigits n = ap binaryDigits (o .many) in
         (left-end ms x g h, omega (arith, g .within .digits))
 
-  -- ── its place ──
+  pub place-is : {s : Search} → s ≡ halving ms x → s .lo ≡ firstWhere (endsBehind x) ms
+  place-is e = ap (λ (s : Search). s .lo) e ∙ finds ms x (o .ascends) .first
 
-  pub place-is : {s : Search} → s ≡ halving ms x → s .lo ≡ first
-  place-is e = ap (λ (s : Search). s .lo) e ∙ finds ms x (valid-ascends v) .first
+-- ── in a table ──
 
-  -- the mapping there ends behind x
-  pub found-ends : {m : Mapping} (i : ℕ) → i ≡ first → i < n → m ≡ mappingAt ws i → x < end m
-  found-ends {m} i e h r =
-      let b : Each (λ k. x < end k) (drop i ms) = rw e (ends-behind x ms (valid-ascends v)) in
-      subst (Each (λ k. x < end k)) (from-place ws n i m h r) b .0
+module _ {ws : List ℕ} {n : ℕ} (v : Valid ws n) where
+  abbrev ms : List Mapping
+  ms = mappingsIn n ws
+
+  pub valid-order : InOrder ms n
+  valid-order = record {
+    many = length-mappings n ws;
+    ascends = valid-ascends v;
+    ends-most = each-map (MappingRules (v .space)) (λ m. end m ≤ limit) ms (λ m r. omega (arith, r .within, v .top)) (valid-rules v .0);
+  }
+
+  pub looked-at : {m : Mapping} (i : ℕ) → i < n → m ≡ mappingAt ws i → at ms i ≡ m
+  looked-at i h e = at-place n ws i _ h ∙ sym e
+
+  module _ (x : ℕ) where
+    abbrev first : ℕ
+    first = firstWhere (endsBehind x) ms
+
+    pub first-place : first ≤ n
+    first-place = omega (arith, first-most (endsBehind x) ms, length-mappings n ws)
+
+    -- the mapping there ends behind x
+    pub found-ends : {m : Mapping} (i : ℕ) → i ≡ first → i < n → m ≡ mappingAt ws i → x < end m
+    found-ends {m} i e h r =
+        let b : Each (λ k. x < end k) (drop i ms) = rw e (ends-behind x ms (valid-ascends v)) in
+        subst (Each (λ k. x < end k)) (from-place ws n i m h r) b .0

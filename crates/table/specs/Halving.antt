@@ -9,6 +9,7 @@ use lib.ListN.{length, getD, take, drop}
 use Rattle.model.specs.declared.Mapping.{Mapping}
 use Rattle.model.specs.Rows.{choose}
 use Rattle.model.specs.Rules.{limit, end}
+use Rattle.model.specs.declared.Range.{Range}
 use Rattle.model.specs.declared.Space.{Space}
 use Rattle.model.specs.Cut.{see}
 use Rattle.model.specs.Exactly.{Each, Ascends}
@@ -68,14 +69,14 @@ abbrev pub BinaryDigits : Type 0
 BinaryDigits = (n d : ℕ) → (binaryDigits n ≤ d) ↔ (n < 2 ^ d)
 
 -- nothing is left, within that many looks; the place is that of the first mapping that ends behind x, and it alone
--- decides what a look-up sees at x
+-- decides what a look-up sees at x, beside any sparse ranges
 pub record Finds (ms : List Mapping) (x : ℕ) (s : Search) : Type 0 where
   pub ended : s .lo ≡ s .hi
   pub within : s .looks ≤ binaryDigits (length ms)
   pub first : s .lo ≡ firstWhere (endsBehind x) ms
   pub before : Each (λ m. end m ≤ x) (take (s .lo) ms)
   pub behind : Each (λ m. x < end m) (drop (s .lo) ms)
-  pub sees : (space : Space) → see space (take 1 (drop (s .lo) ms)) x ≡ see space ms x
+  pub sees : (space : Space) (ys : List Range) → see space ys (take 1 (drop (s .lo) ms)) x ≡ see space ys ms x
 
 -- each step looks at one mapping: no other has a say in it; it counts the look, and leaves at most half
 pub record Halving : Type 0 where

@@ -25,10 +25,10 @@ pub enum Replacement {
 }
 
 // A search for the first mapping that ends behind a byte address: its place is from `lo` to `hi`, after `looks` looks at one mapping each.
-struct Search {
-    lo: usize,
-    hi: usize,
-    looks: usize,
+pub struct Search {
+    pub lo: usize,
+    pub hi: usize,
+    pub looks: usize,
 }
 
 // The mapping in the four words from word `at` on.
@@ -78,7 +78,7 @@ pub fn first_starting_behind(t: &[u64], from: usize, count: usize, x: u64) -> us
 }
 
 // The place in the middle of what is left: where the next look goes.
-fn middle(s: Search) -> usize
+pub fn middle(s: Search) -> usize
     requires { ⌜ s .lo ≤ s .hi ⌝ }
     ensures { λ i. ⌜ i ≡ middle s ⌝ }
 {
@@ -86,7 +86,7 @@ fn middle(s: Search) -> usize
 }
 
 // What a look at the mapping in the middle leaves of the search for `x`. The table is not lent here: that mapping alone decides, and it is counted.
-fn halved(s: Search, m: Mapping, x: u64) -> Search
+pub fn halved(s: Search, m: Mapping, x: u64) -> Search
     requires { ⌜ Halvable s m ⌝ }
     ensures { λ r. ⌜ r ≡ halved x m s ⌝ }
 {
@@ -154,11 +154,11 @@ fn in_space(s: Space, x: u64) -> bool
     (s.start <= x) & (x < s.start + s.size)
 }
 
-// What a look-up sees at the byte address `x`. One search: no mapping but the first that ends behind `x` can have it or
+// What a look-up sees at the byte address `x` in the table alone, beside no ranges. One search: no mapping but the first that ends behind `x` can have it or
 // be the next one.
 pub fn see(s: Space, t: &[u64], count: usize, x: u64) -> Seen
     requires { ⌜ ValidIn s (now t) count ⌝ }
-    ensures { λ v. ⌜ v ≡ see s (mappingsIn count (now (t .entry))) x ⌝ }
+    ensures { λ v. ⌜ v ≡ see s [] (mappingsIn count (now (t .entry))) x ⌝ }
 {
     if !in_space(s, x) {
         return Seen {

@@ -7,7 +7,7 @@ use Rattle.model.specs.Table.{mappingsIn}
 use Rattle.table.specs.Places.{mappingAt}
 use Rattle.table.specs.Halving.{binaryDigits}
 use Rattle.table.proofs.Halving.{halved-less, Left}
-use Rattle.table.proofs.Looks.{looks-start, looks-place, looks-halvable, looks-next, looks-end}
+use Rattle.table.proofs.Looks.{looks-start, looks-place, looks-halvable, looks-next, looks-end, valid-order, looked-at}
 use borrow.Author.Needs.{needs}
 use Rattle.table.proofs.halve.Statement.{statement}
 use Rattle.table.proofs.halve.Tie as tie
@@ -19,7 +19,7 @@ abbrev μ-loop : tie.MeasureT-loop
 μ-loop t count x s₀ s = binaryDigits (s .hi - s .lo)
 
 loop-holds : tie.Need-loop-holds Inv-loop μ-loop
-loop-holds c = looks-start (c .before .pre) (c .before .args .x)
+loop-holds c = looks-start (valid-order (c .before .pre)) (c .before .args .x)
 
 middle-requires : tie.Need-middle-requires Inv-loop μ-loop
 middle-requires c κs = search needs
@@ -28,14 +28,17 @@ read-mapping-requires : tie.Need-read-mapping-requires Inv-loop μ-loop
 read-mapping-requires c κs =
     let loop = c .before .before .before in
     let start = loop .before .before in
-    omega (arith, start .pre .held, c .middle .ensures, looks-place (start .pre) (start .args .x) (loop .loop .inv) (c .before .if1 .taken))
+    omega (arith, start .pre .held, c .middle .ensures, looks-place (valid-order (start .pre)) (start .args .x) (loop .loop .inv) (c .before .if1 .taken))
 
 halved-requires : tie.Need-halved-requires Inv-loop μ-loop
 halved-requires c κs =
+    let left = c .before .before .if1 .taken in
     let loop = c .before .before .before .before in
     let start = loop .before .before in
-    looks-halvable (start .pre) (start .args .x) (loop .loop .inv) (c .before .before .if1 .taken)
-    (c .read-mapping .ensures ∙ ap (mappingAt (start .args .t .now)) (c .before .middle .ensures)) (omega arith)
+    let o = valid-order (start .pre) in
+    let e = c .read-mapping .ensures ∙ ap (mappingAt (start .args .t .now)) (c .before .middle .ensures) in
+    looks-halvable o (start .args .x) (loop .loop .inv) left
+    (looked-at (start .pre) _ (looks-place o (start .args .x) (loop .loop .inv) left) e) (omega arith)
 
 loop-less : tie.Need-loop-less Inv-loop μ-loop
 loop-less c =
@@ -45,16 +48,19 @@ loop-less c =
 loop-again : tie.Need-loop-again Inv-loop μ-loop
 loop-again c =
     let read = c .before in
+    let left = read .before .before .if1 .taken in
     let loop = read .before .before .before .before in
     let start = loop .before .before in
-    looks-next (start .pre) (start .args .x) (loop .loop .inv) (read .before .before .if1 .taken)
-    (read .read-mapping .ensures ∙ ap (mappingAt (start .args .t .now)) (read .before .middle .ensures)) (c .halved .ensures)
+    let o = valid-order (start .pre) in
+    let e = read .read-mapping .ensures ∙ ap (mappingAt (start .args .t .now)) (read .before .middle .ensures) in
+    looks-next o (start .args .x) (loop .loop .inv) left
+    (looked-at (start .pre) _ (looks-place o (start .args .x) (loop .loop .inv) left) e) (c .halved .ensures)
 
 returns : tie.Need-returns Inv-loop μ-loop
 returns c =
     let loop = c .before .before in
     let start = loop .before .before in
-    looks-end (start .pre) (start .args .x) (loop .loop .inv) (c .if1 .left)
+    looks-end (valid-order (start .pre)) (start .args .x) (loop .loop .inv) (c .if1 .left)
 
 pub halve-spec : {M : Type 1} → statement M
 halve-spec =
