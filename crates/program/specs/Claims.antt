@@ -6,7 +6,7 @@ use Rattle.model.specs.Calls.{refused, answered, mappings, operations, byNumber
 use Rattle.model.specs.Exactly.{Each, _∈_, SpaceRules, Pins}
 use Rattle.program.specs.Prelude.{Space, Request, Seen, Grant}
 use Rattle.program.specs.Text.{ascii, decimal}
-use Rattle.program.specs.Script.{recordAt, requestIn, State, emptied, granted, shows, refusal, step, lines, run, start, output, responseTold}
+use Rattle.program.specs.Script.{recordAt, requestIn, operationsIn, State, emptied, granted, shows, refusal, step, lines, run, start, output, responseTold}
 use Rattle.program.specs.declared.ScriptRecord.{ScriptRecord}
 use Rattle.program.specs.declared.ScriptRecord.the-variants.{SetSpace, Bind, LookUp, OtherMark, Cut, End}
 
@@ -37,7 +37,7 @@ Prefix = (bs more : List ℕ) → (recordAt bs ≡ Cut) ⊎ ((recordAt bs ≡ En
 
 -- the request's bytes, two behind the mark, asked in the program's space and lent words
 abbrev pub bindAt : State → List ℕ → Outcome
-bindAt st bs = bind (st .space) (st .table) (st .operations) (bytes (take 40 (drop 2 bs)))
+bindAt st bs = bind (st .space) (st .lent) (st .operations) (bytes (take 40 (drop 2 bs)))
 
 -- what stands at the front of the bytes where no record does: nothing; one byte; a known mark with too few bytes behind
 -- it; another mark, whatever stands behind it
@@ -62,43 +62,64 @@ Takes End n = ⊥
 -- behind it give; at another mark and at a cut the place, and nothing more
 pub record InOrder (st : State) (p : ℕ) (bs : List ℕ) : Type 0 where
   pub goes-on : (n : ℕ) → Takes (recordAt bs) n → run (length bs) st p bs
-      ≡ lines p (operations (requestOf (take 40 (drop 2 bs))) (mappings (st .table))) (step st bs .told)
+      ≡ lines p (operationsIn st bs) (step st bs .told)
       ++ run (length (drop n bs)) (step st bs .state) (p + n) (drop n bs)
   pub stops-mark : recordAt bs ≡ OtherMark → run (length bs) st p bs ≡ ascii "mark " ++ (decimal p ++ ascii "\n")
   pub stops-cut : recordAt bs ≡ Cut → run (length bs) st p bs ≡ ascii "cut " ++ (decimal p ++ ascii "\n")
   pub stops-end : recordAt bs ≡ End → run (length bs) st p bs ≡ []
 
--- a whole script: from a table of 256 mappings that starts as zeros, and a space of four zeros; its first byte is at
--- the place 0
+-- those operations: the request's own; none for one with the sparse flag
+pub record Lists (st : State) (bs : List ℕ) : Type 0 where
+  pub plain : requestOf (take 40 (drop 2 bs)) .flags ≡ 0 → operationsIn st bs ≡ operations (requestOf (take 40 (drop 2 bs))) (mappings (st .lent .table))
+  pub flagged : requestOf (take 40 (drop 2 bs)) .flags ≡ 256 → operationsIn st bs ≡ []
+
+-- a whole script: from a table of 256 mappings that starts as zeros, a list of 64 sparse ranges that does too, and a
+-- space of four zeros; its first byte is at the place 0
 pub record RunsInOrder : Type 0 where
   pub from : (bs : List ℕ) → output bs ≡ run (length bs) (record {
     space = spaceOf 0 0 0 0;
-    table = record { words = replicate 1024 0; count = 0 };
+    lent = record { table = record { words = replicate 1024 0; count = 0 }; ranges = record { words = replicate 128 0; count = 0 } };
     operations = replicate 3598 0;
   }) 0 bs
   pub on : (st : State) (p : ℕ) (bs : List ℕ) → InOrder st p bs
+  pub listed : (st : State) (bs : List ℕ) → Lists st bs
 
 -- `RQ` does what the call by record does, on the 40 bytes behind the mark; `LK` what a look-up does, and changes
 -- nothing
 pub record Does (st : State) (bs : List ℕ) : Type 0 where
   pub binds : (g : Grant) → recordAt bs ≡ Bind → bindAt st bs .answer ≡ answered g → step st bs ≡ record {
     told = granted g;
-    state = record { space = st .space; table = record { words = bindAt st bs .table; count = g .count }; operations = bindAt st bs .operations };
+    state = record {
+      space = st .space;
+      lent = record {
+        table = record { words = bindAt st bs .table; count = g .count };
+        ranges = record { words = bindAt st bs .ranges; count = g .ranges };
+      };
+      operations = bindAt st bs .operations;
+    };
   }
   pub refuses : (n p : ℕ) → recordAt bs ≡ Bind → bindAt st bs .answer ≡ refused n p → step st bs ≡ record { told = refusal n p; state = st }
-  pub looks : (x : ℕ) (v : Seen) → recordAt bs ≡ LookUp x → lookup (st .space) (st .table) x ≡ answered v
+  pub looks : (x : ℕ) (v : Seen) → recordAt bs ≡ LookUp x → lookup (st .space) (st .lent) x ≡ answered v
       → step st bs ≡ record { told = shows x v; state = st }
-  pub looks-refused : (x n p : ℕ) → recordAt bs ≡ LookUp x → lookup (st .space) (st .table) x ≡ refused n p
+  pub looks-refused : (x n p : ℕ) → recordAt bs ≡ LookUp x → lookup (st .space) (st .lent) x ≡ refused n p
       → step st bs ≡ record { told = refusal n p; state = st }
 
 abbrev pub DoesCalls : Type 0
 DoesCalls = (st : State) (bs : List ℕ) → Does st bs
 
--- `SP` with the space s: granted, it sets count 0 and every table word zero; refused, it changes nothing
+-- `SP` with the space s: granted, it sets both counts 0 and every word of the table and the list zero; refused, it
+-- changes nothing
 pub record Sets (st : State) (bs : List ℕ) (s : Space) : Type 0 where
   pub granted : SpaceRules s → step st bs ≡ record {
-    told = emptied (length (st .table .words) / 4);
-    state = record { space = s; table = record { words = replicate (length (st .table .words)) 0; count = 0 }; operations = st .operations };
+    told = emptied (length (st .lent .table .words) / 4);
+    state = record {
+      space = s;
+      lent = record {
+        table = record { words = replicate (length (st .lent .table .words)) 0; count = 0 };
+        ranges = record { words = replicate (length (st .lent .ranges .words)) 0; count = 0 };
+      };
+      operations = st .operations;
+    };
   }
   pub refused : (SpaceRules s → ⊥) → step st bs ≡ record { told = refusal 1 0; state = st }
 
@@ -114,15 +135,20 @@ pub data Reached : State → Type 0 where
   started : Reached start
   stepped : {st : State} → Reached st → (bs : List ℕ) → Reached (step st bs .state)
 
--- no answer is 2, 3, 4, 5 or 17; nor 12, since a request's part is 40 bytes long
+-- no answer is 2, 3, 4, 5, 17 or 18; nor 12, since a request's part is 40 bytes long
 abbrev pub NeverBroken : Type 0
-NeverBroken = (st : State) → Reached st → (bs : List ℕ) (n p : ℕ) → step st bs .told ≡ refusal n p → n ∈ (1 ∷ 6 ∷ 7 ∷ 8 ∷ 9 ∷ 10 ∷ 11 ∷ 13 ∷ 14 ∷ [])
+NeverBroken = (st : State) → Reached st → (bs : List ℕ) (n p : ℕ) → step st bs .told ≡ refusal n p → n ∈ (1 ∷ 6 ∷ 7 ∷ 8 ∷ 9 ∷ 10 ∷ 11 ∷ 13 ∷ 14 ∷ 19 ∷ 20 ∷ [])
 
 -- ── scripts, and what they print ──
 
 -- a request by its numbers
 abbrev pub numbersBytes : ℕ → ℕ → ℕ → ℕ → ℕ → List ℕ
 numbersBytes op object address offset size = requestBytes (byNumbers op address size object offset)
+
+-- one with the sparse flag
+abbrev pub sparseBytes : ℕ → ℕ → ℕ → List ℕ
+sparseBytes op address size =
+    requestBytes (record { op = op; flags = 256; object = 0; pad = 0; address = address; offset = 0; size = size })
 
 -- document 01's example
 abbrev pub workedExample : List ℕ
@@ -138,6 +164,13 @@ scripts =
     ∷ (
       setSpaceBytes 0 65536 0 0 ++ (numbersBytes 0 7 0 0 8192 ++ (numbersBytes 1 0 4096 0 8192 ++ (lookUpBytes 4096 ++ (setSpaceBytes 0 65536 0 0 ++ lookUpBytes 0)))),
       "space 256\ngranted 1 1\nmap 0 8192 7 0\ngranted 1 1\nremap 0 8192 7 0 keep 0\nlower 0 4096 7 0\nat 4096 none 61440\nspace 256\nat 0 none 65536\n",
+    )
+    -- a sparse range with a mapping in it: what is off the mapping; it can't be removed, nor another put over it; then it
+    -- is
+    ∷ (
+      setSpaceBytes 0 65536 0 0 ++ (sparseBytes 0 4096 12288 ++ (numbersBytes 0 7 8192 0 4096 ++ (lookUpBytes 4096 ++ (lookUpBytes 12288
+      ++ (sparseBytes 1 4096 12288 ++ (sparseBytes 0 0 8192 ++ (numbersBytes 1 0 8192 0 4096 ++ (lookUpBytes 8192 ++ (sparseBytes 1 4096 12288 ++ lookUpBytes 8192))))))))),
+      "space 256\ngranted 0 0\ngranted 1 1\nmap 8192 4096 7 0\nat 4096 sparse 4096\nat 12288 sparse 4096\nrefused 20\nrefused 19\ngranted 1 0\nunmap 8192 4096 7 0 keep 0\nat 8192 sparse 8192\ngranted 0 0\nat 8192 none 57344\n",
     )
     ∷ []
 

@@ -3,7 +3,7 @@
 use Rattle.model.specs.Prelude.{_≡_, Bool, List, [], _∷_, _++_, flatMap, ℕ, _+_, _-_, _*_, _≤_, _<_, getD}
 use Rattle.model.specs.Rows.{choose}
 use Rattle.model.specs.Exactly.{Each}
-use Rattle.program.specs.Prelude.{Mapping, Lower, Upper, Both, Operation, Map, Remap, Unmap, Nothing, Object, Grant}
+use Rattle.program.specs.Prelude.{Mapping, Lower, Upper, Both, Operation, Map, Remap, Unmap, Nothing, Sparse, Object, Grant}
 use Rattle.program.specs.Text.{ascii, decimal, operationLines}
 use Rattle.program.specs.Script.{emptied, granted, shows, refusal, otherMark, cut, ended, lines}
 
@@ -48,6 +48,8 @@ pub record Lines (p : ℕ) (os : List Operation) : Type 0 where
       ≡ ascii "granted " ++ (decimal (g .operations) ++ (ascii " " ++ (decimal (g .count) ++ (ascii "\n" ++ flatMap operationLines os))))
   pub of-nothing : (x n : ℕ) → lines p os (shows x (record { shown = Nothing; bytes = n }))
       ≡ ascii "at " ++ (decimal x ++ (ascii " none " ++ (decimal n ++ ascii "\n")))
+  pub of-sparse : (x n : ℕ) → lines p os (shows x (record { shown = Sparse; bytes = n }))
+      ≡ ascii "at " ++ (decimal x ++ (ascii " sparse " ++ (decimal n ++ ascii "\n")))
   pub of-object : (x object offset n : ℕ) → lines p os (shows x (record { shown = Object object offset; bytes = n }))
       ≡ ascii "at " ++ (decimal x ++ (ascii " " ++ (decimal object ++ (ascii " " ++ (decimal offset ++ (ascii " " ++ (decimal n ++ ascii "\n")))))))
   pub of-refusal : (n q : ℕ) → lines p os (refusal n q) ≡ ascii "refused " ++ (decimal n ++ ascii "\n")

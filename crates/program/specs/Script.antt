@@ -1,12 +1,12 @@
 -- The script program (document 01): what stands at a place of a script, what one record does, and all that a script
 -- prints.
 use Rattle.model.specs.Prelude.{Bool, _&&_, List, [], _∷_, _++_, flatMap, ℕ, zero, suc, _+_, _*_, leb, eqb, length, getD, take, drop, replicate}
-use Rattle.program.specs.Prelude.{Space, Operation, Seen, Grant}
+use Rattle.program.specs.Prelude.{Space, Request, Operation, Seen, Grant}
 use Rattle.model.specs.Rows.{choose, Reply, refused, answered, decide}
 use Rattle.model.specs.Rules.{spaceRow}
-use Rattle.model.specs.Table.{Table, capacity, mappings}
+use Rattle.model.specs.Table.{capacity, mappings}
 use Rattle.model.specs.Cut.{operations}
-use Rattle.model.specs.Calls.{littleEndian, requestOf, recordBytes, spaceOf, bytes, Outcome, bind, tableAfter, lookup, numbered}
+use Rattle.model.specs.Calls.{littleEndian, requestOf, recordBytes, spaceOf, bytes, Lent, Purpose, cuts, adds, removes, purpose, Outcome, bind, lentAfter, lookup, numbered}
 use Rattle.program.specs.Text.{line, operationLines, seenLine}
 use Rattle.program.specs.declared.ScriptRecord.{ScriptRecord}
 use Rattle.program.specs.declared.ScriptRecord.the-variants.{SetSpace, Bind, LookUp, OtherMark, Cut, End}
@@ -45,10 +45,10 @@ recordSize End = 0
 
 -- ── one step ──
 
--- what the program holds: the space, the table, and the words lent for operations
+-- what the program holds: the space, the table and the list of sparse ranges, and the words lent for operations
 pub record State : Type 0 where
   pub space : Space
-  pub table : Table
+  pub lent : Lent
   pub operations : List ℕ
 
 -- what it answers to a record; a refusal has document 01's number, and its place
@@ -69,29 +69,35 @@ pub record Step : Type 0 where
   pub told : Told
   pub state : State
 
--- a granted `SP` empties the table, a refused one changes nothing
+-- zeros, as many words as there were
+abbrev pub emptyOf : Lent → Lent
+emptyOf l = record {
+  table = record { words = replicate (length (l .table .words)) 0; count = 0 };
+  ranges = record { words = replicate (length (l .ranges .words)) 0; count = 0 };
+}
+
+-- a granted `SP` empties the table and the list, a refused one changes nothing
 abbrev pub afterSpace : Reply ℕ → Space → State → State
 afterSpace (refused n p) s st = st
-afterSpace (answered c) s st =
-    record { space = s; table = record { words = replicate (length (st .table .words)) 0; count = 0 }; operations = st .operations }
+afterSpace (answered c) s st = record { space = s; lent = emptyOf (st .lent); operations = st .operations }
 
 abbrev pub setSpace : Space → State → Reply ℕ
-setSpace s st = decide (spaceRow s ∷ []) (capacity (st .table))
+setSpace s st = decide (spaceRow s ∷ []) (capacity (st .lent .table))
 
 abbrev pub afterBind : State → Outcome → State
-afterBind st o = record { space = st .space; table = tableAfter (st .table) o; operations = o .operations }
+afterBind st o = record { space = st .space; lent = lentAfter (st .lent) o; operations = o .operations }
 
 -- the 40 bytes behind `RQ`
 abbrev pub requestIn : List ℕ → List ℕ
 requestIn bs = take recordBytes (drop 2 bs)
 
 abbrev pub bindIn : State → List ℕ → Outcome
-bindIn st bs = bind (st .space) (st .table) (st .operations) (bytes (requestIn bs))
+bindIn st bs = bind (st .space) (st .lent) (st .operations) (bytes (requestIn bs))
 
 abbrev pub stepOn : ScriptRecord → State → List ℕ → Step
 stepOn (SetSpace s) st bs = record { told = toldBy emptied (setSpace s st); state = afterSpace (setSpace s st) s st }
 stepOn Bind st bs = record { told = toldBy granted (bindIn st bs .answer); state = afterBind st (bindIn st bs) }
-stepOn (LookUp x) st bs = record { told = toldBy (shows x) (lookup (st .space) (st .table) x); state = st }
+stepOn (LookUp x) st bs = record { told = toldBy (shows x) (lookup (st .space) (st .lent) x); state = st }
 stepOn OtherMark st bs = record { told = otherMark; state = st }
 stepOn Cut st bs = record { told = cut; state = st }
 stepOn End st bs = record { told = ended; state = st }
@@ -111,9 +117,14 @@ lines p os otherMark = line "mark" (p ∷ [])
 lines p os cut = line "cut" (p ∷ [])
 lines p os ended = []
 
--- the operations of the request at the front of the bytes
+-- the operations of the request at the front of the bytes; one with the sparse flag makes none
+abbrev pub operationsFor : Purpose → Request → Lent → List Operation
+operationsFor cuts r l = operations r (mappings (l .table))
+operationsFor adds r l = []
+operationsFor removes r l = []
+
 abbrev pub operationsIn : State → List ℕ → List Operation
-operationsIn st bs = operations (requestOf (requestIn bs)) (mappings (st .table))
+operationsIn st bs = operationsFor (purpose (requestOf (requestIn bs))) (requestOf (requestIn bs)) (st .lent)
 
 -- all that is printed for the bytes from place p on, of which there are at most k records; the next record stands where
 -- the last one ended
@@ -132,14 +143,20 @@ stateAfter (suc k) st bs =
 unfoldable pub leaves : State → List ℕ → State
 leaves st bs = stateAfter (length bs) st bs
 
--- a table of 256 mappings that starts as zeros, and a space of four zeros
+-- a table of 256 mappings that starts as zeros, a list of 64 sparse ranges too, and a space of four zeros
 abbrev pub programMappings : ℕ
 programMappings = 256
+
+abbrev pub programRanges : ℕ
+programRanges = 64
 
 abbrev pub start : State
 start = record {
   space = spaceOf 0 0 0 0;
-  table = record { words = replicate (4 * programMappings) 0; count = 0 };
+  lent = record {
+    table = record { words = replicate (4 * programMappings) 0; count = 0 };
+    ranges = record { words = replicate (2 * programRanges) 0; count = 0 };
+  };
   operations = replicate (14 * (programMappings + 1)) 0;
 }
 

@@ -2,7 +2,7 @@
 use Prim.Native.Char.{code}
 use Prim.Native.String.{String, [] as noText, _∷_ as _then_}
 use Rattle.model.specs.Prelude.{Bool, List, [], _∷_, _++_, ℕ, zero, suc, _+_, _/_, _%_, ltb}
-use Rattle.program.specs.Prelude.{Mapping, Rests, Lower, Upper, Both, Operation, Map, Remap, Unmap, Shown, Nothing, Object, Seen}
+use Rattle.program.specs.Prelude.{Mapping, Rests, Lower, Upper, Both, Operation, Map, Remap, Unmap, Shown, Nothing, Sparse, Object, Seen}
 use Rattle.model.specs.Rows.{choose}
 use Rattle.model.specs.Table.{wordsOf}
 
@@ -55,6 +55,7 @@ operationLines (Unmap keep m) = keepLine "unmap" keep m
 -- an address, what it shows, and for how many bytes (document 02)
 abbrev pub shownLine : ℕ → Shown → ℕ → List ℕ
 shownLine x Nothing n = phrase "at" (x ∷ []) ++ line " none" (n ∷ [])
+shownLine x Sparse n = phrase "at" (x ∷ []) ++ line " sparse" (n ∷ [])
 shownLine x (Object object offset) n = line "at" (x ∷ object ∷ offset ∷ n ∷ [])
 
 abbrev pub seenLine : ℕ → Seen → List ℕ
