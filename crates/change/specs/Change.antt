@@ -12,8 +12,8 @@ use Rattle.model.specs.Table.{Table, capacity, mappings, mappingsIn, written}
 use Rattle.model.specs.Cut.{after, operations}
 use Rattle.model.specs.Layout.{operationWords}
 use Rattle.words.specs.Words.{ZeroFrom}
-use Rattle.change.specs.declared.Change.{Change}
-use Rattle.change.specs.declared.Change.the-variants.{Made, NoRoom}
+use Rattle.change.specs.declared.ChangeAnswer.{ChangeAnswer}
+use Rattle.change.specs.declared.ChangeAnswer.the-variants.{Made, NoRoom}
 use Rattle.table.specs.Places.{firstWhere, startsBehind, endsBehind, Valid}
 
 -- a request in order on a table that passed its check, with zeros behind its last mapping; and where the table has
@@ -55,6 +55,6 @@ unfoldable pub changed : Request → Table → List ℕ → Changed
 changed r t os =
     changedFor (decide (row 11 (leb (length (after r (mappings t))) (capacity t) ∷ []) ∷ []) (length (operations r (mappings t)), length (after r (mappings t)))) r t os
 
-abbrev pub changeReply : Change → Reply (ℕ × ℕ)
+abbrev pub changeReply : ChangeAnswer → Reply (ℕ × ℕ)
 changeReply (Made n count) = answered (n, count)
 changeReply NoRoom = refused 11 0

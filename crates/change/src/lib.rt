@@ -12,7 +12,7 @@ ghost use Rattle.change.specs.Change.{changeReply, Ready, Placed, change
 
 // What carrying out a request came to: so many operations and so many mappings afterwards; or no room, and nothing has
 // changed.
-pub enum Change {
+pub enum ChangeAnswer {
     Made(usize, usize),
     NoRoom,
 }
@@ -44,7 +44,7 @@ fn replacement(r: Request, t: &[u64], lo: usize, hi: usize) -> Replacement
 }
 
 // The request carried out, unless there is no room: its operations from the first word on, and the table in its place.
-pub fn change(r: Request, t: &mut [u64], count: usize, operations: &mut [u64]) -> Change
+pub fn change(r: Request, t: &mut [u64], count: usize, operations: &mut [u64]) -> ChangeAnswer
     requires { ⌜ Ready r (lent (now t) count) (length (now operations)) ⌝ }
     ensures { λ a. ⌜ changed r (lent (now (t .entry)) count) (now (operations .entry)) ≡ record { reply = changeReply a; table = now (t .exit); operations = now (operations .exit) } ⌝ }
 {
@@ -53,9 +53,9 @@ pub fn change(r: Request, t: &mut [u64], count: usize, operations: &mut [u64]) -
     let new = replacement(r, t, lo, hi);
     let after = lo + table::replacement_length(new) + (count - hi);
     if t.len() / 4 < after {
-        return Change::NoRoom;
+        return ChangeAnswer::NoRoom;
     }
     let n = cut::write_operations(operations, t, r, lo, hi);
     table::splice(t, count, lo, hi, new);
-    Change::Made(n, after)
+    ChangeAnswer::Made(n, after)
 }
