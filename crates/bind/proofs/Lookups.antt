@@ -1,17 +1,32 @@
--- A look-up by what its rows say.
+-- A look-up by what its rows say: what the table alone shows, beside the list.
 -- Assumes nothing.
-use mathlib.Core.Path.{_≡_, sym}
+use mathlib.Core.Path.{_≡_, sym, ap, _∙_}
 use mathlib.Core.List.{[]}
 use Prim.Native.Nat.{ℕ}
 use Rattle.model.specs.declared.Seen.{Seen}
 use Rattle.model.specs.declared.Space.{Space}
-use Rattle.model.specs.Rows.{Reply, answered, verdict}
-use Rattle.model.specs.Table.{Table, mappings, tableRows}
+use Rattle.model.specs.Rows.{Reply, refused, answered, decide, verdict}
+use Rattle.model.specs.Table.{mappings}
+use Rattle.model.specs.Ranges.{ranges}
 use Rattle.model.specs.Cut.{see}
-use Rattle.model.specs.Calls.{lookup}
+use Rattle.model.specs.Calls.{Lent, lentRows, seeIn, lookup}
 use Rattle.model.proofs.Rows.{andThen, decide-verdict}
+use Rattle.model.proofs.Table.{table-says}
+use Rattle.model.proofs.Ranges.{list-row-says}
+use Rattle.model.proofs.See.{see-beside}
+use Rattle.ranges.specs.Beside.{beside}
+use Rattle.bind.proofs.Checked.{passed}
 
-module _ (s : Space) (t : Table) where
-  pub lookup-by : (x : ℕ) {u : Reply (Unit {0})} {f : Seen} → u ≡ verdict (tableRows s [] t) → f ≡ see s (mappings t) x → andThen u (answered f) ≡ lookup s t x
+module _ (s : Space) (l : Lent) (x : ℕ) where
+  pub lookup-refused : {n p : ℕ} → refused n p ≡ verdict (lentRows s [] l) → refused n p ≡ lookup s l x
   unfolding lookup
-  lookup-by x e f = rw (e, f) (sym (decide-verdict (tableRows s [] t) (see s (mappings t) x)))
+  lookup-refused e = ap (λ u. andThen u (answered (seeIn s l x))) e ∙ sym (decide-verdict (lentRows s [] l) (seeIn s l x))
+
+  pub lookup-shows : {v w : Seen} → answered tt ≡ verdict (lentRows s [] l) → v ≡ see s [] (mappings (l .table)) x → w ≡ beside (ranges (l .ranges)) x v
+      → answered w ≡ lookup s l x
+  unfolding lookup beside
+  lookup-shows {v} {w} e f g =
+      let p = passed s l e in
+      let seen = see-beside s (ranges (l .ranges)) (mappings (l .table)) (list-row-says s (l .ranges) .0 (p .list) .each-range) (table-says s (mappings (l .table)) .0 (p .table .places)) x in
+      ap answered (g ∙ ap (beside (ranges (l .ranges)) x) f ∙ sym seen)
+      ∙ ap (λ u. andThen u (answered (seeIn s l x))) e ∙ sym (decide-verdict (lentRows s [] l) (seeIn s l x))
