@@ -20,10 +20,9 @@ use Rattle.model.proofs.Numbers.{order}
 use Rattle.model.proofs.Tests.{tests, all-true, all-same}
 use Rattle.model.proofs.Actions.{each-mem}
 use Rattle.model.proofs.Table.{top, table-says}
-use Rattle.model.proofs.Ranges.{list-row-says}
 use Rattle.model.proofs.Rows.{Passed, answered-passed, passes}
 use Rattle.model.proofs.Groups.{lent-passed}
-use Rattle.model.proofs.Ranges.{bare-in, bare-none}
+use Rattle.model.proofs.Ranges.{list-row-says, bare-in, bare-none}
 use Rattle.model.proofs.See.{runEnd-none, runEnd-free, rest-free, shows, bytes-of, has-or-free, inside-or-not, offEnd, see-member, see-free, see-outside}
 
 -- ── the next edge ──
