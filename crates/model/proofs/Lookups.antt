@@ -10,13 +10,12 @@ use native.Mathlib.Omega.{arith}
 use borrow.Author.Tests.{lt-ltb, le-ltb}
 use Rattle.model.specs.Prelude.{Range, Space, Mapping, Shown, Sparse, Object, Seen}
 use Rattle.model.specs.Rows.{all, choose, answered}
-use Rattle.model.specs.Rules.{end}
 use Rattle.model.specs.Table.{mappings}
 use Rattle.model.specs.Ranges.{ranges, rangeEnd, inRangeTests, bare, nearer, nextEdge}
 use Rattle.model.specs.Cut.{see}
 use Rattle.model.specs.Calls.{Lent, lentRows, seeIn, lookup}
 use Rattle.model.specs.Exactly.{_∈_, Each, MappingRules, TableRules, RangeRules}
-use Rattle.model.specs.Lookups.{Has, Free, InRange, Edge, of-mapping, of-start, of-end, of-space, Next, InSpace, nothing, Tells, along, Parts, RangeParts, GoesOn, Lookup}
+use Rattle.model.specs.Lookups.{Has, Free, InRange, Edge, of-mapping, of-start, of-end, of-space, Next, InSpace, Tells, along, Parts, RangeParts, GoesOn, Lookup}
 use Rattle.model.proofs.Numbers.{order}
 use Rattle.model.proofs.Tests.{tests, all-true, all-same}
 use Rattle.model.proofs.Actions.{each-mem}
