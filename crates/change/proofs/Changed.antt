@@ -45,7 +45,7 @@ module _ {r : Request} {ws : List ℕ} {lo hi : ℕ} (p : Placed r ws lo hi) (os
   pub room-places : {k : ℕ} → Ready r (lent ws n) k → count ≤ length ws / 4 → 14 * length (operationsFor r (between ws lo hi)) ≤ k
   room-places g h = rw (← operations-places p) (g .room (omega (arith, counted, h)))
 
-  pub full : length ws / 4 < count → changed r (lent ws n) os ≡ record { answer = refused 11 0; table = ws; operations = os }
+  pub full : length ws / 4 < count → changed r (lent ws n) os ≡ record { reply = refused 11 0; table = ws; operations = os }
   unfolding changed decide
   full h =
       let q : leb (length (after r (mappingsIn n ws))) (length ws / 4) ≡ false = lt-leb (length (after r (mappingsIn n ws))) (length ws / 4) (omega (arith, counted, h)) in
@@ -54,7 +54,7 @@ module _ {r : Request} {ws : List ℕ} {lo hi : ℕ} (p : Placed r ws lo hi) (os
   pub carried-out : {k : ℕ} {us vs : List ℕ} → count ≤ length ws / 4
       → k ≡ length (operationsFor r (between ws lo hi)) → us ≡ stored os 0 (flatMap operationWords (operationsFor r (between ws lo hi)))
       → vs ≡ written (length ws) (spliced (mappingsIn n ws) lo hi new)
-      → changed r (lent ws n) os ≡ record { answer = answered (record { operations = k; count = count }); table = vs; operations = us }
+      → changed r (lent ws n) os ≡ record { reply = answered (k, count); table = vs; operations = us }
   unfolding changed decide
   carried-out {k} {us} {vs} h number wrote table =
       let q : leb (length (after r (mappingsIn n ws))) (length ws / 4) ≡ true = le-leb (length (after r (mappingsIn n ws))) (length ws / 4) (omega (arith, counted, h)) in

@@ -1,16 +1,19 @@
 -- What carrying out a request asks for, and what it leaves.
 -- Assumes nothing.
 use mathlib.Core.Path.{_≡_}
-use mathlib.Core.List.{List, [], _∷_}
+use mathlib.Core.List.{List, [], _∷_, _++_, flatMap}
 use Prim.Native.Nat.{ℕ, _+_, _-_, _*_, _≤_, _<_}
+use lib.Dec.{leb}
 use lib.ListN.{length, drop}
 use Rattle.model.specs.declared.Request.{Request}
-use Rattle.model.specs.Rows.{decide}
+use Rattle.model.specs.Rows.{row, Reply, refused, answered, decide}
 use Rattle.model.specs.Rules.{limit, stop}
-use Rattle.model.specs.Table.{Table, capacity, mappings, mappingsIn}
+use Rattle.model.specs.Table.{Table, capacity, mappings, mappingsIn, written}
 use Rattle.model.specs.Cut.{after, operations}
-use Rattle.model.specs.Calls.{Outcome, outcomeFor, grantOf, roomRow}
+use Rattle.model.specs.Layout.{operationWords}
 use Rattle.words.specs.Words.{ZeroFrom}
+use Rattle.change.specs.declared.ChangeAnswer.{ChangeAnswer}
+use Rattle.change.specs.declared.ChangeAnswer.the-variants.{Made, NoRoom}
 use Rattle.table.specs.Places.{firstWhere, startsBehind, endsBehind, Valid}
 
 -- a request in order on a table that passed its check, with zeros behind its last mapping; and where the table has
@@ -33,6 +36,25 @@ pub record Placed (r : Request) (ws : List ℕ) (lo hi : ℕ) : Type 0 where
   pub low : lo ≡ firstWhere (endsBehind (r .address)) (mappingsIn count ws)
   pub high : hi ≡ lo + firstWhere (startsBehind (stop r - 1)) (drop lo (mappingsIn count ws))
 
+-- what a request does to a table: how many operations and mappings, or a refusal; and the words left
+pub record Changed : Type 0 where
+  pub reply : Reply (ℕ × ℕ)
+  pub table : List ℕ
+  pub operations : List ℕ
+
+abbrev pub changedFor : Reply (ℕ × ℕ) → Request → Table → List ℕ → Changed
+changedFor (refused n p) r t os = record { reply = refused n p; table = t .words; operations = os }
+changedFor (answered g) r t os = record {
+  reply = answered g;
+  table = written (length (t .words)) (after r (mappings t));
+  operations = flatMap operationWords (operations r (mappings t)) ++ drop (14 * length (operations r (mappings t))) os;
+}
+
 -- the last row, 11, alone decides
-unfoldable pub changed : Request → Table → List ℕ → Outcome
-changed r t os = outcomeFor (decide (roomRow t r ∷ []) (grantOf r (mappings t))) r t os
+unfoldable pub changed : Request → Table → List ℕ → Changed
+changed r t os =
+    changedFor (decide (row 11 (leb (length (after r (mappings t))) (capacity t) ∷ []) ∷ []) (length (operations r (mappings t)), length (after r (mappings t)))) r t os
+
+abbrev pub changeReply : ChangeAnswer → Reply (ℕ × ℕ)
+changeReply (Made n count) = answered (n, count)
+changeReply NoRoom = refused 11 0

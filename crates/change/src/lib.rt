@@ -1,7 +1,4 @@
 // Carries out a request that is known to be in order on a table that is known to be valid, in place. Want of room alone refuses it.
-use model::Answer;
-use model::Grant;
-use model::Refusal;
 use model::Request;
 use table::Replacement;
 ghost use mathlib.Core.Path.{_≡_};
@@ -9,10 +6,16 @@ ghost use mathlib.Core.List.{_++_};
 ghost use Prim.Native.Nat.{_≤_};
 ghost use lib.ListN.{length};
 ghost use Rattle.model.specs.Cut.{new, after};
-ghost use Rattle.model.specs.Calls.{answerReply};
 ghost use Rattle.table.specs.Places.{lent, between};
 ghost use Rattle.table.specs.Splice.{mappingsOf};
-ghost use Rattle.change.specs.Change.{Ready, Placed, changed};
+ghost use Rattle.change.specs.Change.{changeReply, Ready, Placed, changed};
+
+// What carrying out a request came to: so many operations and so many mappings afterwards; or no room, and nothing has
+// changed.
+pub enum ChangeAnswer {
+    Made(usize, usize),
+    NoRoom,
+}
 
 // The mapping that a map asks for, behind what is left below its range.
 fn with_new(below: Replacement, r: Request) -> Replacement
@@ -41,21 +44,18 @@ fn replacement(r: Request, t: &[u64], lo: usize, hi: usize) -> Replacement
 }
 
 // The request carried out, unless there is no room: its operations from the first word on, and the table in its place.
-pub fn change(r: Request, t: &mut [u64], count: usize, operations: &mut [u64]) -> Answer
+pub fn change(r: Request, t: &mut [u64], count: usize, operations: &mut [u64]) -> ChangeAnswer
     requires { ⌜ Ready r (lent (now t) count) (length (now operations)) ⌝ }
-    ensures { λ a. ⌜ changed r (lent (now (t .entry)) count) (now (operations .entry)) ≡ record { answer = answerReply a; table = now (t .exit); operations = now (operations .exit) } ⌝ }
+    ensures { λ a. ⌜ changed r (lent (now (t .entry)) count) (now (operations .entry)) ≡ record { reply = changeReply a; table = now (t .exit); operations = now (operations .exit) } ⌝ }
 {
     let lo = table::first_ending_behind(t, count, r.address);
     let hi = table::first_starting_behind(t, lo, count, cut::last_byte(r));
     let new = replacement(r, t, lo, hi);
     let after = lo + table::replacement_length(new) + (count - hi);
     if t.len() / 4 < after {
-        return Answer::Refused(Refusal::NoRoom);
+        return ChangeAnswer::NoRoom;
     }
     let n = cut::write_operations(operations, t, r, lo, hi);
     table::splice(t, count, lo, hi, new);
-    Answer::Granted(Grant {
-        operations: n,
-        count: after,
-    })
+    ChangeAnswer::Made(n, after)
 }

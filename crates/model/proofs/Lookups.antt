@@ -132,7 +132,7 @@ module _ (s : Space) (x : ℕ) (i : InSpace s x) where
   next-free ys (m ∷ ms) f =
       subst (Next s ys (m ∷ ms) x) (sym (runEnd-free (nextEdge (top s) ys x) m ms x f)) (next-mapping s ys m ms x _ (next-free ys ms (rest-free f)))
 
-  pub next-some : (ys : List Range) (ms : List Mapping) → (e : ℕ) × Next s ys ms x e
+  next-some : (ys : List Range) (ms : List Mapping) → (e : ℕ) × Next s ys ms x e
   next-some ys [] = (nextEdge (top s) ys x, next-ranges ys)
   next-some ys (m ∷ ms) = let n = next-some ys ms in (nearer x (m .address) (n .0), next-mapping s ys m ms x (n .0) (n .1))
 

@@ -51,10 +51,10 @@ runEnd-behind to a x (m ∷ ms) h k =
 -- ── the bytes up to there ──
 
 module _ (s : Space) (x : ℕ) where
-  pub bytes-inside : InSpace s x → (to : ℕ) → bytesTo s to x ≡ to - x
+  bytes-inside : InSpace s x → (to : ℕ) → bytesTo s to x ≡ to - x
   bytes-inside i to = rw (all-true (inSpaceTests s x) (omega tests))
 
-  pub bytes-outside : (InSpace s x → ⊥) → (to : ℕ) → bytesTo s to x ≡ 0
+  bytes-outside : (InSpace s x → ⊥) → (to : ℕ) → bytesTo s to x ≡ 0
   bytes-outside n to = rw (all-false (inSpaceTests s x) (λ t. n (omega tests)))
 
 abbrev pub shows : Shown → ℕ → Seen
@@ -157,7 +157,7 @@ bare-none [] x n = refl
 bare-none (y ∷ ys) x n =
     rw (all-false (inRangeTests y x) (λ t. n y (List·Memᴰ·head refl) (omega tests)), bare) (bare-none ys x (λ z i. n z (List·Memᴰ·tail i)))
 
-pub bare-outside : (s : Space) (ys : List Range) → Each (RangeRules s) ys → (x : ℕ) → (InSpace s x → ⊥) → bare ys x ≡ Nothing
+bare-outside : (s : Space) (ys : List Range) → Each (RangeRules s) ys → (x : ℕ) → (InSpace s x → ⊥) → bare ys x ≡ Nothing
 bare-outside s ys q x n = bare-none ys x (λ y i b. let k = each-mem (RangeRules s) ys y q i .within in n (omega arith, omega arith))
 
 pub inside-or-not : (s : Space) (x : ℕ) → InSpace s x ⊎ (InSpace s x → ⊥)

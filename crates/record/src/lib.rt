@@ -61,15 +61,15 @@ fn fields(bytes: &[u8]) -> Request
     }
 }
 
-// Rows 12, 13 and 14, or the request.
-pub fn decode(bytes: &[u8]) -> Decoded
-    ensures { λ d. ⌜ decodedReply d ≡ decode (now (bytes .entry)) ⌝ }
+// Rows 12, 13 and 14, or the request, where a flag is served; 0 where none is.
+pub fn decode(bytes: &[u8], served: u64) -> Decoded
+    ensures { λ d. ⌜ decodedReply d ≡ decode served (now (bytes .entry)) ⌝ }
 {
     if bytes.len() != RECORD_BYTES {
         return Decoded::Refuse(Refusal::BadRecordLength);
     }
     let r = fields(bytes);
-    match rules::form_verdict(r) {
+    match rules::form_verdict(r, served) {
         Verdict::Refuse(w) => Decoded::Refuse(w),
         Verdict::Pass => Decoded::Record(r),
     }

@@ -10,7 +10,7 @@ ghost use mathlib.Core.Path.{_≡_};
 ghost use Prim.Native.Nat.{_+_, min, max};
 ghost use lib.Dec.{leb};
 ghost use Rattle.model.specs.Rows.{all, choose, verdict};
-ghost use Rattle.model.specs.Rules.{sparseFlag, aligned, apart, spaceTests, formRows, requestRows, alignmentRow, insideRow, objectRow, offsetRow};
+ghost use Rattle.model.specs.Rules.{aligned, apart, spaceTests, formRows, requestRows, alignmentRow, insideRow, objectRow, offsetRow};
 ghost use Rattle.model.specs.Table.{fitTests};
 ghost use Rattle.model.specs.Ranges.{rangeTests};
 ghost use Rattle.model.specs.Calls.{numbered, verdictReply};
@@ -162,14 +162,14 @@ fn offset_is_right(r: Request) -> bool
     true
 }
 
-// Rows 13 and 14: the form of a request.
-pub fn form_verdict(r: Request) -> Verdict
-    ensures { λ v. ⌜ verdictReply v ≡ verdict (formRows sparseFlag r) ⌝ }
+// Rows 13 and 14: the form of a request, where a flag is served; 0 where none is.
+pub fn form_verdict(r: Request, served: u64) -> Verdict
+    ensures { λ v. ⌜ verdictReply v ≡ verdict (formRows served r) ⌝ }
 {
     if 1 < r.op {
         return Verdict::Refuse(Refusal::BadOp);
     }
-    if ((r.flags == 0) | (r.flags == SPARSE)) & (r.pad == 0) {
+    if ((r.flags == 0) | (r.flags == served)) & (r.pad == 0) {
         return Verdict::Pass;
     }
     Verdict::Refuse(Refusal::BadFlags)

@@ -8,3 +8,4 @@ pub mod Places
 pub mod Sees
 pub mod Spliced
 pub mod Words
+pub mod Free

@@ -2,7 +2,7 @@
 -- Assumes nothing.
 use mathlib.Core.Path.{_≡_}
 use mathlib.Core.Bool.{Bool}
-use mathlib.Core.List.{List, [], _∷_}
+use mathlib.Core.List.{List, [], _∷_, map}
 use Prim.Native.Nat.{ℕ, suc, _+_, _-_, _*_, _≤_}
 use lib.Dec.{ltb}
 use lib.ListN.{length, drop}
@@ -11,7 +11,7 @@ use Rattle.model.specs.declared.Seen.{Seen}
 use Rattle.model.specs.declared.Shown.the-variants.{Object}
 use Rattle.model.specs.declared.Space.{Space}
 use Rattle.model.specs.Rows.{choose}
-use Rattle.model.specs.Rules.{limit, end}
+use Rattle.model.specs.Rules.{limit, end, apart}
 use Rattle.model.specs.Lookups.{nothing}
 use Rattle.model.specs.Table.{Table, mappingFrom, mappingsIn, badPlace}
 
@@ -44,6 +44,10 @@ abbrev pub seenBy : Mapping → ℕ → Seen
 seenBy m x = choose (ltb x (m .address))
     (nothing (m .address - x))
     (record { shown = Object (m .object) (m .offset + (x - m .address)); bytes = end m - x })
+
+-- each shares no byte with [from, to)
+abbrev pub freeTests : ℕ → ℕ → List Mapping → List Bool
+freeTests from to ms = map (λ m. apart (m .address) (end m) from to) ms
 
 -- a table that passed its check: its mappings keep their rules in some space
 pub record Valid (ws : List ℕ) (count : ℕ) : Type 0 where

@@ -13,7 +13,7 @@ ghost use Rattle.model.specs.Cut.{prepend, inSpaceTests, see};
 ghost use Rattle.model.specs.Rows.{all};
 ghost use Rattle.words.specs.Words.{stored, cleared, ZeroFrom};
 ghost use Rattle.table.specs.Halving.{binaryDigits, middle, halved, halving, Halvable};
-ghost use Rattle.table.specs.Places.{mappingAt, firstWhere, startsBehind, endsBehind, seenBy, Valid, ValidIn};
+ghost use Rattle.table.specs.Places.{mappingAt, firstWhere, startsBehind, endsBehind, seenBy, freeTests, Valid, ValidIn};
 ghost use Rattle.table.specs.Splice.{mappingsOf, spliced, Splice};
 
 // Up to three mappings that take the place of others.
@@ -127,6 +127,19 @@ pub fn first_ending_behind(t: &[u64], count: usize, x: u64) -> usize
     ensures { λ i. ⌜ i ≡ firstWhere (endsBehind x) (mappingsIn count (now (t .entry))) ⌝ }
 {
     halve(t, count, x).lo
+}
+
+// No mapping shares a byte with [from, to): the first that ends behind `from`, if there is one, starts at `to` or behind.
+pub fn is_free(t: &[u64], count: usize, from: u64, to: u64) -> bool
+    requires { ⌜ Valid (now t) count × (from < to) ⌝ }
+    ensures { λ b. ⌜ b ≡ all (freeTests from to (mappingsIn count (now (t .entry)))) ⌝ }
+{
+    let i = first_ending_behind(t, count, from);
+    if i == count {
+        return true;
+    }
+    let m = read_mapping(t, i);
+    to <= m.address
 }
 
 // What is seen at `x` by the first mapping that ends behind it, the next one where `x` is not in it.

@@ -8,7 +8,7 @@ use Rattle.record.proofs.decode.Statement.{statement}
 use Rattle.record.proofs.decode.Tie as tie
 
 returns : tie.Need-returns
-returns c = sym (decode-other (c .before .before .args .bytes .now) (c .if1 .taken))
+returns c = let a = c .before .before .args in sym (decode-other (a .served) (a .bytes .now) (c .if1 .taken))
 
 fields-requires : tie.Need-fields-requires
 fields-requires c κs = search needs
@@ -27,16 +27,16 @@ returns-2 c =
     let form = c .before .before .before in
     let read = form .before in
     let whole = read .before in
-    let bytes = whole .before .before .args .bytes .now in
-    sym (decode-whole bytes (whole .if1 .left) (read .fields .ensures) (sym (ap verdictReply (c .before .w .given .1)) ∙ form .form-verdict .ensures))
+    let a = whole .before .before .args in
+    sym (decode-whole (a .served) (a .bytes .now) (whole .if1 .left) (read .fields .ensures) (sym (ap verdictReply (c .before .w .given .1)) ∙ form .form-verdict .ensures))
 
 returns-3 : tie.Need-returns-3
 returns-3 c =
     let form = c .before .before in
     let read = form .before in
     let whole = read .before in
-    let bytes = whole .before .before .args .bytes .now in
-    sym (decode-whole bytes (whole .if1 .left) (read .fields .ensures) (sym (ap verdictReply (c .enum-told .given .1)) ∙ form .form-verdict .ensures))
+    let a = whole .before .before .args in
+    sym (decode-whole (a .served) (a .bytes .now) (whole .if1 .left) (read .fields .ensures) (sym (ap verdictReply (c .enum-told .given .1)) ∙ form .form-verdict .ensures))
 
 pub decode-spec : {M : Type 1} → statement M
 decode-spec =
