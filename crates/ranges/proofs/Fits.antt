@@ -90,8 +90,8 @@ module _ (s : Space) (l : RangeList) where
       go false e =
           e ∙ sym (all-false (lengthTests l ++ behind)
           (λ h.
-              let k = alls-split (listTests s 0 (ranges l)) _ (alls-split (lengthTests l) behind h .1) .1 in
-              subst T (sym (z .1 (zeros-from (2 * l .count) (l .words) .0 k)) ∙ e) tt))
+          let k = alls-split (listTests s 0 (ranges l)) _ (alls-split (lengthTests l) behind h .1) .1 in
+          subst T (sym (z .1 (zeros-from (2 * l .count) (l .words) .0 k)) ∙ e) tt))
 
 -- an empty list is right where its count is 0
 pub empty-decides : (s : Space) (ws : List ℕ) (n : ℕ) → length ws ≡ 0 → eqb n 0 ≡ all (listRow s (lentList ws n) .tests)

@@ -26,13 +26,13 @@ module _ {ws : List ℕ} {n : ℕ} (v : ValidList ws n) where
   pub found-most : {i : ℕ} (a : ℕ) → i ≡ firstBehind a ys → i ≤ n
   found-most {i} a e = omega (arith, first-most a ys i (first-is a ys e), length-ranges n ws)
 
+  -- a place of the list, where it is not the one behind the last
+  pub found-less : {i : ℕ} (a : ℕ) → i ≡ firstBehind a ys → (i ≡ n → ⊥) → i < n
+  found-less a e k = omega (arith, found-most a e)
+
   module _ (x : Range) {i : ℕ} (e : i ≡ firstBehind (x .start) ys) where
     first : First (x .start) ys i
     first = first-is (x .start) ys e
-
-    -- a place of the list, where it is not the one behind the last
-    pub found-less : (i ≡ n → ⊥) → i < n
-    found-less k = omega (arith, found-most (x .start) e)
 
     -- ── a range more ──
 
@@ -43,7 +43,7 @@ module _ {ws : List ℕ} {n : ℕ} (v : ValidList ws n) where
     free-at {y} k r p = go (leb (rangeEnd x) (y .start)) refl
       where
         there : getD ys i x ≡ y
-        there = at-place n ws i x (found-less k) ∙ sym r
+        there = at-place n ws i x (found-less (x .start) e k) ∙ sym r
 
         go : (b : Bool) → leb (rangeEnd x) (y .start) ≡ b → b ≡ all (overlapRow x (lentList ws n) .tests)
         go true t =
@@ -53,8 +53,8 @@ module _ {ws : List ℕ} {n : ℕ} (v : ValidList ws n) where
             let l : y .start < rangeEnd x = leb-false (rangeEnd x) (y .start) t in
             sym (all-false (overlapRow x (lentList ws n) .tests)
             (λ h.
-                let m : rangeEnd x ≤ y .start = rw there at (free-first x ys i x first (valid-spaced v) p h (omega (arith, found-less k, length-ranges n ws))) in
-                omega arith))
+            let m : rangeEnd x ≤ y .start = rw there at (free-first x ys i x first (valid-spaced v) p h (omega (arith, found-less (x .start) e k, length-ranges n ws))) in
+            omega arith))
 
     pub put-place : 0 < x .size → all (overlapRow x (lentList ws n) .tests) ≡ true → insertRange x ys ≡ take i ys ++ (x ∷ drop i ys)
     put-place p t =
@@ -69,10 +69,10 @@ module _ {ws : List ℕ} {n : ℕ} (v : ValidList ws n) where
     listed-is l = listed-at x ys i x first (valid-spaced v) (omega (arith, length-ranges n ws))
 
     pub there-at : {y : Range} → (i ≡ n → ⊥) → y ≡ rangeAt ws i → sameRange x y ≡ listed x ys
-    there-at k r = let l = found-less k in ap (sameRange x) (r ∙ sym (at-place n ws i x l)) ∙ sym (listed-is l)
+    there-at k r = let l = found-less (x .start) e k in ap (sameRange x) (r ∙ sym (at-place n ws i x l)) ∙ sym (listed-is l)
 
     pub out-less : listed x ys ≡ true → i < n
-    out-less t = found-less (λ q. subst T (sym t ∙ sym (there-end q)) tt)
+    out-less t = found-less (x .start) e (λ q. subst T (sym t ∙ sym (there-end q)) tt)
 
     pub out-place : listed x ys ≡ true → removeRange x ys ≡ take i ys ++ drop (i + 1) ys
     out-place t =

@@ -14,7 +14,7 @@ returns c =
 range-at-requires : tie.Need-range-at-requires
 range-at-requires c κs =
     let start = c .before .before in
-    omega (arith, valid-held (start .pre .0), found-less (start .pre .0) (start .args .x) (start .pre .1) (c .if1 .left))
+    omega (arith, valid-held (start .pre .0), found-less (start .pre .0) (start .args .x .start) (start .pre .1) (c .if1 .left))
 
 returns-2 : tie.Need-returns-2
 returns-2 c =

@@ -1,51 +1,73 @@
+-- `ranges::off_mappings` meets its contract.
+-- Assumes nothing.
+use native.Mathlib.Omega.{arith}
+use Rattle.ranges.proofs.Places.{valid-held, end-at}
+use Rattle.ranges.proofs.Found.{found-less}
+use Rattle.ranges.proofs.Edges.{off-end, ends-behind, off-next, off-here}
 use borrow.Author.Needs.{needs}
 use Rattle.ranges.proofs.off_mappings.Statement.{statement}
 use Rattle.ranges.proofs.off_mappings.Tie as tie
-use Rattle.ranges.proofs.off_mappings.Reads as reads
-use Rattle.ranges.proofs.off_mappings.Lts as lts
-use Rattle.ranges.proofs.first_ending_behind.Reads as first-ending-behind-reads
-use Rattle.ranges.proofs.range_at.Reads as range-at-reads
-use Rattle.rules.proofs.lesser.Reads as lesser-reads
 
--- src/lib.rt:196:9
 first-ending-behind-requires : tie.Need-first-ending-behind-requires
 first-ending-behind-requires c κs = search needs
 
--- src/lib.rt:198:9
 returns : tie.Need-returns
-returns c = ?
+returns c =
+    let found = c .before in
+    let start = found .before .before in
+    off-end (start .pre) (start .args .x) (start .args .bytes) (found .first-ending-behind .ensures) (c .if1 .taken)
 
--- src/lib.rt:203:9
 range-at-requires : tie.Need-range-at-requires
-range-at-requires c κs = ?
+range-at-requires c κs =
+    let found = c .before in
+    let start = found .before .before in
+    omega (arith, valid-held (start .pre), found-less (start .pre) (start .args .x) (found .first-ending-behind .ensures) (c .if1 .left))
 
--- src/lib.rt:207:41
 sub-lesser : tie.Need-sub-lesser
 sub-lesser c = search needs
 
--- src/lib.rt:207:20
 lesser-requires : tie.Need-lesser-requires
 lesser-requires c κs = search needs
 
--- src/lib.rt:205:9
 returns-2 : tie.Need-returns-2
-returns-2 c = ?
+returns-2 c =
+    let test = c .before .before in
+    let read = test .before .before in
+    let found = read .before .before in
+    let start = found .before .before in
+    let e = found .first-ending-behind .ensures in
+    let l = found-less (start .pre) (start .args .x) e (read .before .if1 .left) in
+    off-next (start .pre) (start .args .x) (start .args .bytes) e l (read .range-at .ensures) (test .if2 .taken) (c .lesser .ensures)
 
--- src/lib.rt:212:37
 add-lesser : tie.Need-add-lesser
-add-lesser c = ?
+add-lesser c =
+    let read = c .before .before .before in
+    let found = read .before .before in
+    let start = found .before .before in
+    let l = found-less (start .pre) (start .args .x) (found .first-ending-behind .ensures) (read .before .if1 .left) in
+    omega (arith, end-at (start .pre) _ l (read .range-at .ensures))
 
--- src/lib.rt:212:37
 sub-lesser-2 : tie.Need-sub-lesser-2
-sub-lesser-2 c = ?
+sub-lesser-2 c =
+    let read = c .before .before .before in
+    let found = read .before .before in
+    let start = found .before .before in
+    let e = found .first-ending-behind .ensures in
+    let l = found-less (start .pre) (start .args .x) e (read .before .if1 .left) in
+    omega (arith, ends-behind (start .pre) (start .args .x) (start .args .bytes) e l (read .range-at .ensures))
 
--- src/lib.rt:212:16
 lesser-requires-2 : tie.Need-lesser-requires-2
 lesser-requires-2 c κs = search needs
 
--- src/lib.rt:192:1
 returns-3 : tie.Need-returns-3
-returns-3 c = ?
+returns-3 c =
+    let test = c .before .before in
+    let read = test .before .before in
+    let found = read .before .before in
+    let start = found .before .before in
+    let e = found .first-ending-behind .ensures in
+    let l = found-less (start .pre) (start .args .x) e (read .before .if1 .left) in
+    off-here (start .pre) (start .args .x) (start .args .bytes) e l (read .range-at .ensures) (test .if2 .left) (c .lesser2 .ensures)
 
 pub off-mappings-spec : {M : Type 1} → statement M
 off-mappings-spec =
