@@ -1,13 +1,13 @@
 -- The first range that ends behind a byte address: how it tells what shares a byte with a range, where a range is to be
 -- put in, and which one is to be taken out.
 -- Assumes nothing.
-use mathlib.Core.Path.{_≡_, refl, sym, ap, subst, _∙_}
+use mathlib.Core.Path.{_≡_, refl, sym, ap, subst}
 use mathlib.Core.Bool.{Bool, true, false, or-false}
-use mathlib.Core.List.{List, [], _∷_, _++_, map}
+use mathlib.Core.List.{List, [], _∷_, map}
 use Prim.Native.Nat.{ℕ, suc, _+_, _≤_, _<_}
 use native.Mathlib.Omega.{arith}
 use lib.Dec.{ltb}
-use lib.ListN.{length, getD, take, drop}
+use lib.ListN.{length, getD}
 use borrow.Author.Tests.{ltb-true, ltb-false, le-leb, lt-leb, ne-eqb}
 use Rattle.model.specs.declared.Range.{Range}
 use Rattle.model.specs.Rows.{choose}
@@ -17,6 +17,7 @@ use Rattle.model.specs.Exactly.{Each}
 use Rattle.model.proofs.Tests.{tests, Alls}
 use Rattle.model.proofs.Actions.{each-map}
 use Rattle.ranges.specs.Lists.{firstBehind}
+use Rattle.ranges.specs.Changes.{putIn, takenOut}
 use Rattle.ranges.proofs.Places.{Spaced}
 
 -- i is the place of the first range that ends behind a
@@ -76,7 +77,7 @@ module _ (x : Range) where
   -- ── its place ──
 
   pub insert-at : (ys : List Range) (i : ℕ) (d : Range) → First (x .start) ys i → Spaced ys
-      → (i < length ys → rangeEnd x ≤ getD ys i d .start) → insertRange x ys ≡ take i ys ++ (x ∷ drop i ys)
+      → (i < length ys → rangeEnd x ≤ getD ys i d .start) → insertRange x ys ≡ putIn x i ys
   unfolding insertRange
   insert-at _ _ d none s k = refl
   insert-at _ _ d (here y ys h) s k =
@@ -111,7 +112,7 @@ module _ (x : Range) where
   listed-none _ _ (later y ys i h f) s l = rw (other y (λ e. omega (arith, s .0 .0))) (listed-none ys i f (s .0 .1, s .1 .1) (omega arith))
 
   pub remove-at : (ys : List Range) (i : ℕ) (d : Range) → First (x .start) ys i → Spaced ys → i < length ys
-      → sameRange x (getD ys i d) ≡ true → removeRange x ys ≡ take i ys ++ drop (i + 1) ys
+      → sameRange x (getD ys i d) ≡ true → removeRange x ys ≡ takenOut i ys
   unfolding removeRange
   remove-at _ _ d none s l e = absurd (omega arith)
   remove-at _ _ d (here y ys h) s l e = rw (e, choose) refl

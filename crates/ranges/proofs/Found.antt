@@ -3,19 +3,19 @@
 -- Assumes nothing.
 use mathlib.Core.Path.{_≡_, refl, sym, ap, subst, _∙_}
 use mathlib.Core.Bool.{Bool, true, false}
-use mathlib.Core.List.{List, _∷_, _++_}
-use Prim.Native.Nat.{ℕ, _+_, _≤_, _<_}
+use mathlib.Core.List.{List}
+use Prim.Native.Nat.{ℕ, _≤_, _<_}
 use native.Mathlib.Omega.{arith}
 use lib.Dec.{T, leb}
-use lib.ListN.{length, getD, take, drop}
-use borrow.Author.Tests.{le-leb, lt-leb, leb-true, leb-false}
+use lib.ListN.{getD}
+use borrow.Author.Tests.{leb-true, leb-false}
 use Rattle.model.specs.declared.Range.{Range}
 use Rattle.model.specs.Rows.{all}
 use Rattle.model.specs.Ranges.{rangesIn, rangeEnd, insertRange, sameRange, listed, removeRange}
 use Rattle.model.proofs.Tests.{all-facts, all-true, all-false}
 use Rattle.model.proofs.Ranges.{length-ranges}
 use Rattle.ranges.specs.Lists.{lentList, rangeAt, firstBehind, ValidList}
-use Rattle.ranges.specs.Changes.{overlapRow}
+use Rattle.ranges.specs.Changes.{overlapRow, putIn, takenOut}
 use Rattle.ranges.proofs.Places.{at-place, valid-spaced}
 use Rattle.ranges.proofs.First.{First, first-is, first-most, first-free, free-first, insert-at, listed-at, listed-none, remove-at}
 
@@ -56,7 +56,7 @@ module _ {ws : List ℕ} {n : ℕ} (v : ValidList ws n) where
             let m : rangeEnd x ≤ y .start = rw there at (free-first x ys i x first (valid-spaced v) p h (omega (arith, found-less (x .start) e k, length-ranges n ws))) in
             omega arith))
 
-    pub put-place : 0 < x .size → all (overlapRow x (lentList ws n) .tests) ≡ true → insertRange x ys ≡ take i ys ++ (x ∷ drop i ys)
+    pub put-place : 0 < x .size → all (overlapRow x (lentList ws n) .tests) ≡ true → insertRange x ys ≡ putIn x i ys
     put-place p t =
         insert-at x ys i x first (valid-spaced v) (free-first x ys i x first (valid-spaced v) p (all-facts (overlapRow x (lentList ws n) .tests) t))
 
@@ -74,6 +74,6 @@ module _ {ws : List ℕ} {n : ℕ} (v : ValidList ws n) where
     pub out-less : listed x ys ≡ true → i < n
     out-less t = found-less (x .start) e (λ q. subst T (sym t ∙ sym (there-end q)) tt)
 
-    pub out-place : listed x ys ≡ true → removeRange x ys ≡ take i ys ++ drop (i + 1) ys
+    pub out-place : listed x ys ≡ true → removeRange x ys ≡ takenOut i ys
     out-place t =
         remove-at x ys i x first (valid-spaced v) (omega (arith, out-less t, length-ranges n ws)) (sym (listed-is (out-less t)) ∙ t)

@@ -14,7 +14,6 @@ use Rattle.model.specs.declared.Shown.{Shown}
 use Rattle.model.specs.declared.Shown.the-variants.{Nothing, Object}
 use Rattle.model.specs.declared.Space.{Space}
 use Rattle.model.specs.Rows.{all, choose}
-use Rattle.model.specs.Rules.{end}
 use Rattle.model.specs.Ranges.{rangeEnd, bare, nearer, nextEdge}
 use Rattle.model.specs.Cut.{insideTests, translate, runEnd, inSpaceTests, bytesTo, see}
 use Rattle.model.proofs.Tests.{tests, all-facts}

@@ -4,7 +4,7 @@ use mathlib.Core.Path.{_≡_, refl, sym, ap, ap₂, _∙_}
 use mathlib.Core.List.{List, [], _∷_, _++_, append-assoc, flatMap}
 use Prim.Native.Nat.{ℕ, zero, suc, _+_, _-_, _*_, _≤_, _<_}
 use native.Mathlib.Omega.{arith}
-use lib.ListN.{length, take, drop, replicate, length-append, length-drop}
+use lib.ListN.{length, take, drop, length-append, length-drop}
 use lib.Seq.{length-take-le, drop-drop}
 use Rattle.model.specs.declared.Range.{Range}
 use Rattle.model.specs.Ranges.{rangesIn, rangeWords, listWritten}
@@ -14,6 +14,7 @@ use Rattle.words.specs.Words.{stored, moved, cleared, ZeroFrom}
 use Rattle.words.proofs.Moved.{length-part, moved-is}
 use Rattle.words.proofs.Stored.{length-stored, stored-before, cleared-behind}
 use Rattle.words.proofs.Zeros.{zero-later, zero-stored, cleared-zero, cleared-up-to}
+use Rattle.ranges.specs.Changes.{putIn, takenOut}
 
 take-ranges : (i n : ℕ) (ws : List ℕ) → i ≤ n → take i (rangesIn n ws) ≡ rangesIn i ws
 unfolding rangesIn
@@ -59,11 +60,11 @@ module _ (ws : List ℕ) (n i : ℕ) (held : 2 * n ≤ length ws) (zeros : ZeroF
       rw e at (cleared-behind ws (2 * i) run (omega arith)) ∙ rw (w, f) (sym (append-assoc front run _))
 
   pub put-written : (x : Range) → i ≤ n → 2 * n + 2 ≤ length ws
-      → stored (moved ws (2 * i) (2 * i + 2) (2 * (n - i))) (2 * i) (rangeWords x) ≡ listWritten (length ws) (take i ys ++ (x ∷ drop i ys))
+      → stored (moved ws (2 * i) (2 * i + 2) (2 * (n - i))) (2 * i) (rangeWords x) ≡ listWritten (length ws) (putIn x i ys)
   put-written x h k =
       let run : List ℕ = rangeWords x ++ rest i in
       let l : length (rest i) ≡ 2 * (n - i) = length-part ws (2 * i) (2 * (n - i)) (omega arith) in
-      let w : flatMap rangeWords (take i ys ++ (x ∷ drop i ys)) ≡ front ++ run =
+      let w : flatMap rangeWords (putIn x i ys) ≡ front ++ run =
       flatMap-append rangeWords (take i ys) (x ∷ drop i ys) ∙ ap₂ _++_ (words-before h) (flatMap-cons x (drop i ys) ∙ ap (λ (r : List ℕ). rangeWords x ++ r) (words-from i h)) in
       let z : ZeroFrom (stored ws (2 * i) run) (2 * n + 2) =
       zero-stored ws (2 * i) run (2 * n + 2) (omega arith) (omega arith) (zero-later ws (2 * n) (2 * n + 2) (omega arith) k zeros) in
@@ -72,14 +73,14 @@ module _ (ws : List ℕ) (n i : ℕ) (held : 2 * n ≤ length ws) (zeros : ZeroF
       ∙ run-written run (2 * n + 2) _ h (omega arith) k w
 
   pub out-written : i < n → stored (moved ws (2 * i + 2) (2 * i) (2 * (n - 1 - i))) (2 * (n - 1)) (0 ∷ 0 ∷ [])
-      ≡ listWritten (length ws) (take i ys ++ drop (i + 1) ys)
+      ≡ listWritten (length ws) (takenOut i ys)
   out-written h =
       let run : List ℕ = rest (i + 1) in
       let from : 2 * i + 2 ≡ 2 * (i + 1) = omega arith in
       let many : n - 1 - i ≡ n - (i + 1) = omega arith in
       let l : length run ≡ 2 * (n - (i + 1)) = length-part ws (2 * (i + 1)) (2 * (n - (i + 1))) (omega arith) in
       let m : length (stored ws (2 * i) run) ≡ length ws = length-stored ws (2 * i) run (omega arith) in
-      let w : flatMap rangeWords (take i ys ++ drop (i + 1) ys) ≡ front ++ run =
+      let w : flatMap rangeWords (takenOut i ys) ≡ front ++ run =
       flatMap-append rangeWords (take i ys) (drop (i + 1) ys) ∙ ap₂ _++_ (words-before (omega arith)) (words-from (i + 1) (omega arith)) in
       let two : 2 * n - 2 * (n - 1) ≡ 2 = omega arith in
       let z : ZeroFrom (stored ws (2 * i) run) (2 * n) = zero-stored ws (2 * i) run (2 * n) (omega arith) (omega arith) zeros in

@@ -1,9 +1,9 @@
 -- A list with one range more or less, with the rows that refuse it.
 -- Assumes nothing.
-use mathlib.Core.List.{List, [], _∷_, map}
-use Prim.Native.Nat.{ℕ, _/_}
+use mathlib.Core.List.{List, [], _∷_, _++_, map}
+use Prim.Native.Nat.{ℕ, _+_, _/_}
 use lib.Dec.{ltb}
-use lib.ListN.{length}
+use lib.ListN.{length, take, drop}
 use Rattle.model.specs.declared.Range.{Range}
 use Rattle.model.specs.declared.Verdict.{Verdict}
 use Rattle.model.specs.Rows.{Row, row, Reply, refused, answered, verdict}
@@ -33,6 +33,13 @@ fullRow l = row 11 (ltb (l .count) (length (l .words) / 2) ∷ [])
 
 abbrev pub absentRow : Range → RangeList → Row
 absentRow x l = row 20 (listed x (ranges l) ∷ [])
+
+-- a range at place i, those from there on behind it; and the one at place i taken out
+abbrev pub putIn : Range → ℕ → List Range → List Range
+putIn x i ys = take i ys ++ (x ∷ drop i ys)
+
+abbrev pub takenOut : ℕ → List Range → List Range
+takenOut i ys = take i ys ++ drop (i + 1) ys
 
 -- one range more: 19, 11. One less: 20
 unfoldable pub added : Range → RangeList → ListOutcome

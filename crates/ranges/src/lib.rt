@@ -9,16 +9,16 @@ use model::Verdict;
 use table::Search;
 ghost use mathlib.Core.Path.{_≡_};
 ghost use mathlib.Core.Bool.{true};
-ghost use mathlib.Core.List.{_∷_, _++_, map};
+ghost use mathlib.Core.List.{map};
 ghost use Prim.Native.Nat.{_+_, _*_, _≤_, _<_};
-ghost use lib.ListN.{length, take, drop};
+ghost use lib.ListN.{length};
 ghost use Rattle.model.specs.Rows.{all};
 ghost use Rattle.model.specs.Rules.{limit, spaceTests};
 ghost use Rattle.model.specs.Ranges.{rangesIn, listWritten, rangeEnd, listTests, lengthTests, listRow, listed};
 ghost use Rattle.words.specs.Words.{ZeroFrom};
 ghost use Rattle.table.specs.Halving.{binaryDigits, halving};
 ghost use Rattle.ranges.specs.Lists.{lentList, rangeAt, asMapping, firstBehind, ValidList};
-ghost use Rattle.ranges.specs.Changes.{overlapRow, outcomeOf, added, removed};
+ghost use Rattle.ranges.specs.Changes.{outcomeOf, overlapRow, putIn, takenOut, added, removed};
 ghost use Rattle.ranges.specs.Beside.{offMappings, beside};
 
 // Document 02: a list is of even length up to so many words.
@@ -142,7 +142,7 @@ fn is_there(list: &[u64], count: usize, i: usize, x: Range) -> bool
 // Puts a range in at place `i`: those from there on move up by one place.
 fn put_in(list: &mut [u64], count: usize, i: usize, x: Range)
     requires { ⌜ (i ≤ count) × (2 * count + 2 ≤ length (now list)) × ZeroFrom (now list) (2 * count) ⌝ }
-    ensures { λ _. ⌜ now (list .exit) ≡ listWritten (length (now (list .entry))) (take i (rangesIn count (now (list .entry))) ++ (x ∷ drop i (rangesIn count (now (list .entry))))) ⌝ }
+    ensures { λ _. ⌜ now (list .exit) ≡ listWritten (length (now (list .entry))) (putIn x i (rangesIn count (now (list .entry)))) ⌝ }
 {
     words::move_run(list, 2 * i, 2 * i + 2, 2 * (count - i));
     words::store(list, 2 * i, &[x.start, x.size])
@@ -151,7 +151,7 @@ fn put_in(list: &mut [u64], count: usize, i: usize, x: Range)
 // Takes the range at place `i` out: those behind it move down by one place, and the words of the last become zero.
 fn take_out(list: &mut [u64], count: usize, i: usize)
     requires { ⌜ (i < count) × (2 * count ≤ length (now list)) × ZeroFrom (now list) (2 * count) ⌝ }
-    ensures { λ _. ⌜ now (list .exit) ≡ listWritten (length (now (list .entry))) (take i (rangesIn count (now (list .entry))) ++ drop (i + 1) (rangesIn count (now (list .entry)))) ⌝ }
+    ensures { λ _. ⌜ now (list .exit) ≡ listWritten (length (now (list .entry))) (takenOut i (rangesIn count (now (list .entry)))) ⌝ }
 {
     let after = count - 1;
     words::move_run(list, 2 * i + 2, 2 * i, 2 * (after - i));

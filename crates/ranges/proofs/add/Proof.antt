@@ -38,7 +38,7 @@ put-in-requires : tie.Need-put-in-requires
 put-in-requires c κs =
     let found = c .before .before .before .before .before in
     let start = found .before .before .before in
-    (found-most (start .pre .0) (start .args .range .start) (found .first-ending-behind .ensures), omega (arith, c .before .if2 .left), valid-zeros (start .pre .0))
+    (omega (arith, found-most (start .pre .0) (start .args .range .start) (found .first-ending-behind .ensures)), omega (arith, c .before .if2 .left), valid-zeros (start .pre .0))
 
 same-length-3 : tie.Need-same-length-3
 same-length-3 c = search needs

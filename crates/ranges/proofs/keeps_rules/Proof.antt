@@ -47,7 +47,7 @@ are-zero-from-requires : tie.Need-are-zero-from-requires
 are-zero-from-requires c κs =
     let right = c .before .before .before in
     let a = right .before .before .before .args in
-    length-holds (a .s) (lentList (a .list .now) (a .count)) (held (right .length-is-right .ensures) (c .before .before .if2 .left))
+    omega (arith, length-holds (a .s) (lentList (a .list .now) (a .count)) (held (right .length-is-right .ensures) (c .before .before .if2 .left)))
 
 returns-4 : tie.Need-returns-4
 returns-4 c =

@@ -1,7 +1,6 @@
 -- `ranges::take_out` meets its contract.
 -- Assumes nothing.
 use mathlib.Core.Path.{_∙_}
-use native.Mathlib.Omega.{arith}
 use Rattle.ranges.proofs.Words.{out-written}
 use borrow.Author.Needs.{needs}
 use Rattle.ranges.proofs.take_out.Statement.{statement}
