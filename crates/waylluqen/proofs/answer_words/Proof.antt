@@ -10,8 +10,8 @@ enum-known-a c = search needs
 refusal-number-requires : tie.Need-refusal-number-requires
 refusal-number-requires c κs = search needs
 
-cast-t7 : tie.Need-cast-t7
-cast-t7 c = search needs
+cast-t8 : tie.Need-cast-t8
+cast-t8 c = search needs
 
 refusal-place-requires : tie.Need-refusal-place-requires
 refusal-place-requires c κs = search needs
@@ -31,7 +31,7 @@ answer-words-spec =
     (tie.spec
     enum-known-a
     refusal-number-requires
-    cast-t7
+    cast-t8
     refusal-place-requires
     enum-known-a-2
     returns

@@ -25,7 +25,8 @@ returns : tie.Need-returns
 returns c =
     let bound = c .before .before .before .before .before in
     let spaced = bound .before .before .before in
-    ap (left (spaced .before .before .before .args .count)) (rw (spaced .space-of .ensures) at (bound .bind .ensures)) ∙ rw (c .answer-words .ensures)
+    let a = spaced .before .before .before .before .args in
+    ap (left (a .count) (a .range-count)) (rw (spaced .space-of .ensures) at (bound .bind .ensures)) ∙ rw (c .answer-words .ensures)
 
 pub waylluqen-bind-spec : {M : Type 1} → statement M
 waylluqen-bind-spec =

@@ -21,11 +21,15 @@ same-length c = search needs
 same-length-2 : tie.Need-same-length-2
 same-length-2 c = search needs
 
+same-length-3 : tie.Need-same-length-3
+same-length-3 c = search needs
+
 returns : tie.Need-returns
 returns c =
-    let bound = c .before .before .before .before .before in
-    let spaced = bound .before .before .before in
-    ap (left (spaced .before .before .before .before .args .count)) (rw (spaced .space-of .ensures) at (bound .bind-record .ensures)) ∙ rw (c .answer-words .ensures)
+    let bound = c .before .before .before .before .before .before .before in
+    let spaced = bound .before .before .before .before in
+    let a = spaced .before .before .before .before .before .args in
+    ap (left (a .count) (a .range-count)) (rw (spaced .space-of .ensures) at (bound .bind-record .ensures)) ∙ rw (c .answer-words .ensures)
 
 pub waylluqen-bind-record-spec : {M : Type 1} → statement M
 waylluqen-bind-record-spec =
@@ -36,4 +40,5 @@ waylluqen-bind-record-spec =
     answer-words-requires
     same-length
     same-length-2
+    same-length-3
     returns)
