@@ -7,17 +7,17 @@ use borrow.Author.Needs.{needs}
 use Rattle.drawings.proofs.ask.Statement.{statement}
 use Rattle.drawings.proofs.ask.Tie as tie
 
-element-copy-out-t13 : tie.Need-element-copy-out-t13
-element-copy-out-t13 c = search needs
+element-copy-out-t14 : tie.Need-element-copy-out-t14
+element-copy-out-t14 c = search needs
 
-element-copy-out-t16 : tie.Need-element-copy-out-t16
-element-copy-out-t16 c = search needs
+element-copy-out-t17 : tie.Need-element-copy-out-t17
+element-copy-out-t17 c = search needs
 
-element-copy-out-t19 : tie.Need-element-copy-out-t19
-element-copy-out-t19 c = search needs
+element-copy-out-t20 : tie.Need-element-copy-out-t20
+element-copy-out-t20 c = search needs
 
-element-copy-out-t22 : tie.Need-element-copy-out-t22
-element-copy-out-t22 c = search needs
+element-copy-out-t23 : tie.Need-element-copy-out-t23
+element-copy-out-t23 c = search needs
 
 mul-lent-table : tie.Need-mul-lent-table
 mul-lent-table c = search needs
@@ -40,6 +40,9 @@ slice-relend-prefix-lent-operations c = search needs
 slice-aggregate-lent-operations : tie.Need-slice-aggregate-lent-operations
 slice-aggregate-lent-operations c = sym (length-take-le _ _ (omega arith))
 
+slice-aggregate-bind : tie.Need-slice-aggregate-bind
+slice-aggregate-bind c = search needs
+
 bind-requires : tie.Need-bind-requires
 bind-requires c κs = search needs
 
@@ -59,10 +62,10 @@ pub ask-spec : {M : Type 1} → statement M
 ask-spec =
     tie.close
     (tie.spec
-    element-copy-out-t13
-    element-copy-out-t16
-    element-copy-out-t19
-    element-copy-out-t22
+    element-copy-out-t14
+    element-copy-out-t17
+    element-copy-out-t20
+    element-copy-out-t23
     mul-lent-table
     slice-relend-prefix-lent-table
     slice-aggregate-lent-table
@@ -70,6 +73,7 @@ ask-spec =
     mul-lent-operations
     slice-relend-prefix-lent-operations
     slice-aggregate-lent-operations
+    slice-aggregate-bind
     bind-requires
     answer-words-requires
     same-length
