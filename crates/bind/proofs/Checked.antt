@@ -1,65 +1,101 @@
--- Rows that pass leave a table that can be searched and changed.
+-- Rows that pass leave a table and a list that can be searched and changed.
 -- Assumes nothing.
 use mathlib.Core.Path.{_≡_, refl, sym, _∙_}
-use mathlib.Core.List.{List, [], _∷_}
-use Prim.Native.Nat.{ℕ, zero, suc, _≤_}
+use mathlib.Core.List.{List, [], _∷_, _++_}
+use Prim.Native.Nat.{ℕ, zero, suc, _+_, _≤_}
+use native.Mathlib.Omega.{arith}
 use lib.Dec.{eqb→eq}
 use Rattle.model.specs.declared.Request.{Request}
 use Rattle.model.specs.declared.Space.{Space}
-use Rattle.model.specs.Rows.{Row, Reply, answered, verdict}
+use Rattle.model.specs.Rows.{Row, Reply, answered, decide, verdict}
 use Rattle.model.specs.Rules.{limit, objectTests, offsetTests, requestRows}
-use Rattle.model.specs.Table.{Table, mappings, operationsRow, tableRows}
-use Rattle.model.proofs.Tests.{tests, Alls}
+use Rattle.model.specs.Table.{mappings, operationsRow, tableRows}
+use Rattle.model.specs.Ranges.{listRow}
+use Rattle.model.specs.Calls.{Lent, lentRows}
+use Rattle.model.proofs.Tests.{tests, Alls, all-true}
 use Rattle.model.proofs.Rows.{passed-split, answered-passed, andThen, decide-append}
-use Rattle.model.proofs.Groups.{TablePassed, table-passed, RequestPassed, request-passed}
+use Rattle.model.proofs.Groups.{LentPassed, lent-passed, RequestPassed, request-passed}
 use Rattle.model.proofs.Store.{length-mappings}
 use Rattle.model.proofs.Zeros.{stale-zeros}
 use Rattle.model.proofs.Operations.{operations-most}
 use Rattle.table.specs.Places.{ValidIn}
+use Rattle.ranges.specs.Lists.{ValidList}
 use Rattle.change.specs.Change.{Ready}
-use Rattle.bind.specs.Bound.{checkedRows}
+use Rattle.bind.specs.Bound.{checkedRows, Relistable}
 
--- a map's offset and size end by 2^48, and an unmap has no offset
+-- a map's offset and size end by 2^48, and any other request has no offset
 offset-most : {s : Space} (r : Request) → RequestPassed s r → r .offset ≤ limit
-offset-most r p = go (r .op) (p .object) (p .offset)
+offset-most r p = go (r .op) (r .op + r .flags) (omega arith) (p .object) (p .offset)
   where
-    go : (op : ℕ) → Alls (objectTests op r) → Alls (offsetTests op r) → r .offset ≤ limit
-    go zero h k = omega (tests, k)
-    go (suc n) h k = omega (tests, h)
+    go : (op n : ℕ) → op ≤ n → Alls (objectTests n r) → Alls (offsetTests op r) → r .offset ≤ limit
+    go zero n l h k = omega (tests, k)
+    go (suc op) zero l h k = absurd (omega arith)
+    go (suc op) (suc n) l h k = omega (tests, h)
 
-module _ (s : Space) (t : Table) where
-  valid-by : {between : List Row} → TablePassed s between t → ValidIn s (t .words) (t .count)
+module _ (s : Space) (l : Lent) where
+  valid-by : {between : List Row} → LentPassed s between l → ValidIn s (l .table .words) (l .table .count)
   valid-by p = (
     record {
-      held = omega (tests, p .count);
+      held = omega (tests, p .table .count);
       space = s;
-      top = omega (tests, p .space);
-      kept = eqb→eq _ _ (p .places .0) ∙ length-mappings (t .count) (t .words);
+      top = omega (tests, p .table .space);
+      kept = eqb→eq _ _ (p .table .places .0) ∙ length-mappings (l .table .count) (l .table .words);
     },
     refl,
   )
 
-  pub valid : answered tt ≡ verdict (tableRows s [] t) → ValidIn s (t .words) (t .count)
-  valid e = valid-by (table-passed s [] t (answered-passed (tableRows s [] t) tt tt (sym e) .0))
+  valid-list : {between : List Row} → LentPassed s between l → ValidList (l .ranges .words) (l .ranges .count)
+  valid-list p = record { space = s; top = omega (tests, p .table .space); kept = all-true (listRow s (l .ranges) .tests) (p .list) }
 
-  -- the rows 1 to 5 and 17 of a request, with n words lent for operations
-  abbrev lentRows : ℕ → List Row
-  lentRows n = tableRows s (operationsRow n t ∷ []) t
+  pub passed : answered tt ≡ verdict (lentRows s [] l) → LentPassed s [] l
+  passed e = lent-passed s [] l (answered-passed (lentRows s [] l) tt tt (sym e) .0)
 
-  pub ready : (n : ℕ) (r : Request) → answered tt ≡ verdict (checkedRows s t n r) → Ready r t n
-  ready n r e =
-      let p = passed-split (lentRows n) (requestRows s r) (answered-passed (checkedRows s t n r) tt tt (sym e) .0) in
-      let rows : TablePassed s (operationsRow n t ∷ []) t = table-passed s (operationsRow n t ∷ []) t (p .0) in
-      let ask : RequestPassed s r = request-passed s r (p .1) in
-      record {
-        table = valid-by rows .0;
-        behind = stale-zeros t .0 (rows .behind);
-        not-empty = omega (tests, ask .alignment);
-        stop-most = omega (tests, ask .range, rows .space);
-        offset-most = offset-most r ask;
-        room = λ _. omega (tests, rows .others, rows .count, operations-most r (mappings t), length-mappings (t .count) (t .words));
-      }
+  pub valid : answered tt ≡ verdict (lentRows s [] l) → ValidIn s (l .table .words) (l .table .count)
+  valid e = valid-by (passed e)
 
-  -- rows 1 to 5 and 17, and those behind them
-  pub checked-by : (n : ℕ) (r : Request) {u : Reply (Unit {0})} → u ≡ verdict (lentRows n) → andThen u (verdict (requestRows s r)) ≡ verdict (checkedRows s t n r)
-  checked-by n r e = rw e (sym (decide-append (lentRows n) (requestRows s r) tt))
+  pub valid-ranges : answered tt ≡ verdict (lentRows s [] l) → ValidList (l .ranges .words) (l .ranges .count)
+  valid-ranges e = valid-list (passed e)
+
+  -- the rows 1 to 5, 17 and 18 of a request, with n words lent for operations
+  abbrev own : ℕ → List Row
+  own n = lentRows s (operationsRow n (l .table) ∷ []) l
+
+  module _ (n : ℕ) (r : Request) (e : answered tt ≡ verdict (checkedRows s l n r)) where
+    groups : LentPassed s (operationsRow n (l .table) ∷ []) l × RequestPassed s r
+    groups =
+        let p = passed-split (own n) (requestRows s r) (answered-passed (checkedRows s l n r) tt tt (sym e) .0) in
+        (lent-passed s (operationsRow n (l .table) ∷ []) l (p .0), request-passed s r (p .1))
+
+    pub ready : Ready r (l .table) n
+    ready =
+        let rows = groups .0 in
+        let ask = groups .1 in
+        record {
+          table = valid-by rows .0;
+          behind = stale-zeros (l .table) .0 (rows .table .behind);
+          not-empty = omega (tests, ask .alignment);
+          stop-most = omega (tests, ask .range, rows .table .space);
+          offset-most = offset-most r ask;
+          room = λ _. omega (tests, rows .table .others, rows .table .count, operations-most r (mappings (l .table)), length-mappings (l .table .count) (l .table .words));
+        }
+
+    pub relistable : Relistable r l
+    relistable =
+        let rows = groups .0 in
+        let ask = groups .1 in
+        record {
+          table = valid-by rows .0;
+          list = valid-list rows;
+          not-empty = omega (tests, ask .alignment);
+          stop-most = omega (tests, ask .range, rows .table .space);
+        }
+
+  -- rows 1 to 5, 17 and 18, and those behind them
+  pub checked-by : (n : ℕ) (r : Request) {u : Reply (Unit {0})} → u ≡ verdict (own n) → andThen u (verdict (requestRows s r)) ≡ verdict (checkedRows s l n r)
+  checked-by n r e = rw e (sym (decide-append (own n) (requestRows s r) tt))
+
+  -- the table's rows, and row 18
+  pub lent-by : (between : List Row) {u v : Reply (Unit {0})} → u ≡ verdict (tableRows s between (l .table)) → v ≡ verdict (listRow s (l .ranges) ∷ [])
+      → andThen u v ≡ verdict (lentRows s between l)
+  unfolding lentRows
+  lent-by between e f = rw (e, f) (sym (decide-append (tableRows s between (l .table)) (listRow s (l .ranges) ∷ []) tt))

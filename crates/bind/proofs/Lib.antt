@@ -1,3 +1,4 @@
 pub mod Binds
 pub mod Checked
+pub mod Lasts
 pub mod Lookups

@@ -1,24 +1,42 @@
--- A request whose form is right, by numbers or decoded: what is left of the public call.
+-- What is lent, in slices; and a request whose form is right, by numbers or decoded: what is left of the public call.
 -- Assumes nothing.
 use mathlib.Core.List.{List, [], _∷_, _++_}
-use Prim.Native.Nat.{ℕ}
+use Prim.Native.Nat.{ℕ, _≤_, _<_}
 use lib.ListN.{length}
 use Rattle.model.specs.declared.Request.{Request}
 use Rattle.model.specs.declared.Space.{Space}
 use Rattle.model.specs.Rows.{Row, decide}
-use Rattle.model.specs.Rules.{requestRows}
-use Rattle.model.specs.Table.{Table, mappings, operationsRow, tableRows}
-use Rattle.model.specs.Calls.{Asking, numbers, Outcome, outcomeFor, grantOf, roomRow}
+use Rattle.model.specs.Rules.{limit, stop, requestRows}
+use Rattle.model.specs.Table.{operationsRow}
+use Rattle.model.specs.Calls.{Asking, numbers, Lent, lentRows, Purpose, purpose, lastRows, grantFor, Outcome, outcomeFor}
+use Rattle.table.specs.Places.{lent, Valid}
+use Rattle.ranges.specs.Lists.{lentList, ValidList}
 use Rattle.bind.specs.declared.Numbers.{Numbers}
+
+-- a list of sparse ranges and a table in lent slices of words, each with its count
+abbrev pub lentWords : List ℕ → ℕ → List ℕ → ℕ → Lent
+lentWords rs n ws count = record { table = lent ws count; ranges = lentList rs n }
 
 -- a request by its numbers, as it comes
 abbrev pub numbersOf : Numbers → Asking
 numbersOf q = numbers (q .op) (q .address) (q .size) (q .object) (q .offset)
 
--- the rows 1 to 5, 17 and 6 to 10, with n words lent for operations
-abbrev pub checkedRows : Space → Table → ℕ → Request → List Row
-checkedRows s t n r = tableRows s (operationsRow n t ∷ []) t ++ requestRows s r
+-- the rows 1 to 5, 17, 18 and 6 to 10, with n words lent for operations
+abbrev pub checkedRows : Space → Lent → ℕ → Request → List Row
+checkedRows s l n r = lentRows s (operationsRow n (l .table) ∷ []) l ++ requestRows s r
 
--- and 11
-unfoldable pub bound : Space → Table → List ℕ → Request → Outcome
-bound s t os r = outcomeFor (decide (checkedRows s t (length os) r ++ roomRow t r ∷ []) (grantOf r (mappings t))) r t os
+-- where these passed, 19, 20 and 11 decide, by what the request is for
+unfoldable pub decided : Purpose → Request → Lent → List ℕ → Outcome
+decided for r l os = outcomeFor (decide (lastRows for r l) (grantFor for r l)) for r l os
+
+-- all of them
+unfoldable pub bound : Space → Lent → List ℕ → Request → Outcome
+bound s l os r =
+    outcomeFor (decide (checkedRows s l (length os) r ++ lastRows (purpose r) r l) (grantFor (purpose r) r l)) (purpose r) r l os
+
+-- what changing the list asks for: a table and a list that passed their checks, and a range in order
+pub record Relistable (r : Request) (l : Lent) : Type 0 where
+  pub table : Valid (l .table .words) (l .table .count)
+  pub list : ValidList (l .ranges .words) (l .ranges .count)
+  pub not-empty : 0 < r .size
+  pub stop-most : stop r ≤ limit

@@ -1,18 +1,29 @@
-// The public calls on a table: any space, any words, any count and any numbers get the answer, and leave the words, that the model gives.
+// The public calls on a table and a list of sparse ranges: any space, any words, any counts and any numbers get the answer, and leave the
+// words, that the model gives.
+use change::ChangeAnswer;
 use model::Answer;
 use model::Decoded;
 use model::Found;
+use model::Grant;
+use model::Range;
 use model::Refusal;
 use model::Request;
 use model::Space;
 use model::Verdict;
 ghost use mathlib.Core.Path.{_≡_};
-ghost use mathlib.Core.List.{[], _∷_};
-ghost use Rattle.model.specs.Rows.{verdict};
-ghost use Rattle.model.specs.Table.{operationsRow, tableRows};
-ghost use Rattle.model.specs.Calls.{bytes, bind, lookup, verdictReply, answerReply, foundReply};
+ghost use mathlib.Core.Bool.{true};
+ghost use mathlib.Core.List.{List, [], _∷_};
+ghost use Prim.Native.Nat.{ℕ, _<_};
+ghost use lib.ListN.{length};
+ghost use Rattle.model.specs.Rows.{all, verdict};
+ghost use Rattle.model.specs.Rules.{spaceTests};
+ghost use Rattle.model.specs.Table.{operationsRow};
+ghost use Rattle.model.specs.Ranges.{listRow};
+ghost use Rattle.model.specs.Calls.{bytes, lentRows, cuts, adds, removes, bind, lookup, verdictReply, answerReply, foundReply};
 ghost use Rattle.table.specs.Places.{lent};
-ghost use Rattle.bind.specs.Bound.{numbersOf, checkedRows, bound};
+ghost use Rattle.ranges.specs.Lists.{lentList};
+ghost use Rattle.change.specs.Change.{Ready};
+ghost use Rattle.bind.specs.Bound.{lentWords, numbersOf, checkedRows, Relistable, decided, bound};
 
 // A request by its numbers: op 0 maps, op 1 unmaps, another is refused.
 #[repr(C)]
@@ -24,30 +35,67 @@ pub struct Numbers {
     pub offset: u64,
 }
 
-// Rows 1, 2, 4, 5 and 17.
-fn lookup_verdict(s: Space, table: &[u64], count: usize) -> Verdict
-    ensures { λ v. ⌜ verdictReply v ≡ verdict (tableRows s [] (lent (now (table .entry)) count)) ⌝ }
+// Row 18.
+fn list_verdict(s: Space, ranges: &[u64], range_count: usize) -> Verdict
+    requires { ⌜ all (spaceTests s) ≡ true ⌝ }
+    ensures { λ v. ⌜ verdictReply v ≡ verdict (listRow s (lentList (now (ranges .entry)) «range_count») ∷ []) ⌝ }
+{
+    if !ranges::keeps_rules(s, ranges, range_count) {
+        return Verdict::Refuse(Refusal::BadRanges);
+    }
+    Verdict::Pass
+}
+
+// Rows 1, 2, 4, 5, 17 and 18.
+fn lookup_verdict(
+    s: Space,
+    ranges: &[u64],
+    range_count: usize,
+    table: &[u64],
+    count: usize,
+) -> Verdict
+    ensures { λ v. ⌜ verdictReply v ≡ verdict (lentRows s [] (lentWords (now (ranges .entry)) «range_count» (now (table .entry)) count)) ⌝ }
 {
     if !rules::space_keeps_rules(s) {
         return Verdict::Refuse(Refusal::BadSpace);
     }
-    inspect::table_verdict(s, table, count)
-}
-
-// What the byte address `x` shows in a table of `count` mappings, and for how many bytes, or the first of the refusals 1,
-// 2, 4, 5 and 17.
-pub fn lookup(s: Space, table: &[u64], count: usize, x: u64) -> Found
-    ensures { λ f. ⌜ foundReply f ≡ lookup s (lent (now (table .entry)) count) x ⌝ }
-{
-    match lookup_verdict(s, table, count) {
-        Verdict::Refuse(w) => Found::Refused(w),
-        Verdict::Pass => Found::Shows(table::see(s, table, count, x)),
+    match inspect::table_verdict(s, table, count) {
+        Verdict::Refuse(w) => Verdict::Refuse(w),
+        Verdict::Pass => list_verdict(s, ranges, range_count),
     }
 }
 
-// Rows 1 to 5 and 17, with so many words lent for operations.
-fn lent_verdict(s: Space, table: &[u64], count: usize, operation_words: usize) -> Verdict
-    ensures { λ v. ⌜ verdictReply v ≡ verdict (tableRows s (operationsRow «operation_words» (lent (now (table .entry)) count) ∷ []) (lent (now (table .entry)) count)) ⌝ }
+// What the byte address `x` shows in a table of `count` mappings, beside a list of sparse ranges, and for how many bytes,
+// or the first of the refusals 1, 2, 4, 5, 17 and 18.
+pub fn lookup(
+    s: Space,
+    ranges: &[u64],
+    range_count: usize,
+    table: &[u64],
+    count: usize,
+    x: u64,
+) -> Found
+    ensures { λ f. ⌜ foundReply f ≡ lookup s (lentWords (now (ranges .entry)) «range_count» (now (table .entry)) count) x ⌝ }
+{
+    match lookup_verdict(s, ranges, range_count, table, count) {
+        Verdict::Refuse(w) => Found::Refused(w),
+        Verdict::Pass => {
+            let alone = table::see(s, table, count, x);
+            Found::Shows(ranges::beside(ranges, range_count, x, alone))
+        }
+    }
+}
+
+// Rows 1 to 5, 17 and 18, with so many words lent for operations.
+fn lent_verdict(
+    s: Space,
+    ranges: &[u64],
+    range_count: usize,
+    table: &[u64],
+    count: usize,
+    operation_words: usize,
+) -> Verdict
+    ensures { λ v. ⌜ verdictReply v ≡ verdict (lentRows s (operationsRow «operation_words» (lent (now (table .entry)) count) ∷ []) (lentWords (now (ranges .entry)) «range_count» (now (table .entry)) count)) ⌝ }
 {
     if !rules::space_keeps_rules(s) {
         return Verdict::Refuse(Refusal::BadSpace);
@@ -58,45 +106,160 @@ fn lent_verdict(s: Space, table: &[u64], count: usize, operation_words: usize) -
     if !cut::operations_fit(operation_words, table.len() / 4) {
         return Verdict::Refuse(Refusal::ShortOperations);
     }
-    inspect::contents_verdict(s, table, count)
+    match inspect::contents_verdict(s, table, count) {
+        Verdict::Refuse(w) => Verdict::Refuse(w),
+        Verdict::Pass => list_verdict(s, ranges, range_count),
+    }
 }
 
-// Rows 1 to 5, 17 and 6 to 10.
+// Rows 1 to 5, 17, 18 and 6 to 10.
 fn bind_verdict(
     s: Space,
+    ranges: &[u64],
+    range_count: usize,
     table: &[u64],
     count: usize,
     operation_words: usize,
     r: Request,
 ) -> Verdict
-    ensures { λ v. ⌜ verdictReply v ≡ verdict (checkedRows s (lent (now (table .entry)) count) «operation_words» r) ⌝ }
+    ensures { λ v. ⌜ verdictReply v ≡ verdict (checkedRows s (lentWords (now (ranges .entry)) «range_count» (now (table .entry)) count) «operation_words» r) ⌝ }
 {
-    match lent_verdict(s, table, count, operation_words) {
+    match lent_verdict(s, ranges, range_count, table, count, operation_words) {
         Verdict::Refuse(w) => Verdict::Refuse(w),
         Verdict::Pass => rules::request_verdict(s, r),
     }
 }
 
-// A request whose form is right: rows 1 to 5, 17 and 6 to 11.
-fn bind_request(
+// A request without the flag that passed rows 1 to 10, 17 and 18: row 11, or the table cut. The list plays no part; its
+// count is answered.
+fn cut_table(
+    r: Request,
+    table: &mut [u64],
+    count: usize,
+    operations: &mut [u64],
+    ranges: usize,
+) -> Answer
+    requires { ⌜ Ready r (lent (now table) count) (length (now operations)) ⌝ }
+    ensures { λ a. ⌜ ((rs : List ℕ) → decided cuts r (lentWords rs ranges (now (table .entry)) count) (now (operations .entry)) ≡ record { answer = answerReply a; table = now (table .exit); ranges = rs; operations = now (operations .exit) }) ⌝ }
+{
+    match change::change(r, table, count, operations) {
+        ChangeAnswer::NoRoom => Answer::Refused(Refusal::NoRoom),
+        ChangeAnswer::Made(made, after) => Answer::Granted(Grant {
+            operations: made,
+            count: after,
+            ranges: ranges,
+        }),
+    }
+}
+
+// A map with the flag that passed them: rows 19 and 11, or a range more.
+fn add_range(
+    r: Request,
+    ranges: &mut [u64],
+    range_count: usize,
+    table: &[u64],
+    count: usize,
+) -> Answer
+    requires { ⌜ Relistable r (lentWords (now ranges) «range_count» (now table) count) ⌝ }
+    ensures { λ a. ⌜ ((os : List ℕ) → decided adds r (lentWords (now (ranges .entry)) «range_count» (now (table .entry)) count) os ≡ record { answer = answerReply a; table = now (table .entry); ranges = now (ranges .exit); operations = os }) ⌝ }
+{
+    let range = Range {
+        start: r.address,
+        size: r.size,
+    };
+    match ranges::add(ranges, range_count, range) {
+        Verdict::Refuse(w) => Answer::Refused(w),
+        Verdict::Pass => Answer::Granted(Grant {
+            operations: 0,
+            count: count,
+            ranges: range_count + 1,
+        }),
+    }
+}
+
+// An unmap with the flag that passed them: row 20, or a range less.
+fn remove_range(
+    r: Request,
+    ranges: &mut [u64],
+    range_count: usize,
+    table: &[u64],
+    count: usize,
+) -> Answer
+    requires { ⌜ Relistable r (lentWords (now ranges) «range_count» (now table) count) ⌝ }
+    ensures { λ a. ⌜ ((os : List ℕ) → decided removes r (lentWords (now (ranges .entry)) «range_count» (now (table .entry)) count) os ≡ record { answer = answerReply a; table = now (table .entry); ranges = now (ranges .exit); operations = os }) ⌝ }
+{
+    if !table::is_free(table, count, r.address, r.address + r.size) {
+        return Answer::Refused(Refusal::NoSuchRange);
+    }
+    let range = Range {
+        start: r.address,
+        size: r.size,
+    };
+    match ranges::remove(ranges, range_count, range) {
+        Verdict::Refuse(w) => Answer::Refused(w),
+        Verdict::Pass => Answer::Granted(Grant {
+            operations: 0,
+            count: count,
+            ranges: range_count - 1,
+        }),
+    }
+}
+
+// A request whose form is right, and that has no flag. The list is only read.
+fn bind_plain(
     s: Space,
+    ranges: &[u64],
+    range_count: usize,
     table: &mut [u64],
     count: usize,
     operations: &mut [u64],
     r: Request,
 ) -> Answer
-    ensures { λ a. ⌜ bound s (lent (now (table .entry)) count) (now (operations .entry)) r ≡ record { answer = answerReply a; table = now (table .exit); operations = now (operations .exit) } ⌝ }
+    requires { ⌜ r .flags ≡ 0 ⌝ }
+    ensures { λ a. ⌜ bound s (lentWords (now (ranges .entry)) «range_count» (now (table .entry)) count) (now (operations .entry)) r ≡ record { answer = answerReply a; table = now (table .exit); ranges = now (ranges .entry); operations = now (operations .exit) } ⌝ }
 {
-    match bind_verdict(s, table, count, operations.len(), r) {
+    match bind_verdict(s, ranges, range_count, table, count, operations.len(), r) {
         Verdict::Refuse(w) => Answer::Refused(w),
-        Verdict::Pass => change::change(r, table, count, operations),
+        Verdict::Pass => cut_table(r, table, count, operations, range_count),
     }
 }
 
-// Maps or unmaps a range, by the request's numbers: the first of the refusals 13, 1 to 5, 17, 6 to 11, and then no word
+// One whose form is right, and that has the flag. The table and the operation words are only read.
+fn bind_flagged(
+    s: Space,
+    ranges: &mut [u64],
+    range_count: usize,
+    table: &[u64],
+    count: usize,
+    operations: &[u64],
+    r: Request,
+) -> Answer
+    requires { ⌜ 0 < r .flags ⌝ }
+    ensures { λ a. ⌜ bound s (lentWords (now (ranges .entry)) «range_count» (now (table .entry)) count) (now (operations .entry)) r ≡ record { answer = answerReply a; table = now (table .entry); ranges = now (ranges .exit); operations = now (operations .entry) } ⌝ }
+{
+    match bind_verdict(s, ranges, range_count, table, count, operations.len(), r) {
+        Verdict::Refuse(w) => Answer::Refused(w),
+        Verdict::Pass => {
+            if r.op == 0 {
+                return add_range(r, ranges, range_count, table, count);
+            }
+            remove_range(r, ranges, range_count, table, count)
+        }
+    }
+}
+
+// Maps or unmaps a range, by the request's numbers: the first of the refusals 13, 1 to 5, 17, 18, 6 to 11, and then no word
 // changes; or a grant, the table as it is afterwards, and the operations for the driver from the first word on.
-pub fn bind(s: Space, table: &mut [u64], count: usize, operations: &mut [u64], q: Numbers) -> Answer
-    ensures { λ a. ⌜ bind s (lent (now (table .entry)) count) (now (operations .entry)) (numbersOf q) ≡ record { answer = answerReply a; table = now (table .exit); operations = now (operations .exit) } ⌝ }
+pub fn bind(
+    s: Space,
+    ranges: &[u64],
+    range_count: usize,
+    table: &mut [u64],
+    count: usize,
+    operations: &mut [u64],
+    q: Numbers,
+) -> Answer
+    ensures { λ a. ⌜ bind s (lentWords (now (ranges .entry)) «range_count» (now (table .entry)) count) (now (operations .entry)) (numbersOf q) ≡ record { answer = answerReply a; table = now (table .exit); ranges = now (ranges .entry); operations = now (operations .exit) } ⌝ }
 {
     let r = Request {
         op: q.op,
@@ -107,24 +270,32 @@ pub fn bind(s: Space, table: &mut [u64], count: usize, operations: &mut [u64], q
         offset: q.offset,
         size: q.size,
     };
-    match rules::form_verdict(r) {
+    match rules::form_verdict(r, rules::SPARSE) {
         Verdict::Refuse(w) => Answer::Refused(w),
-        Verdict::Pass => bind_request(s, table, count, operations, r),
+        Verdict::Pass => bind_plain(s, ranges, range_count, table, count, operations, r),
     }
 }
 
-// The same by the bytes of a record: the refusals 12, 13, 14, 1 to 5, 17, 6 to 11.
+// The same by the bytes of a record, which may have the sparse flag and then changes the list alone: the refusals 12, 13,
+// 14, 1 to 5, 17, 18, 6 to 10, 19, 20, 11.
 pub fn bind_record(
     s: Space,
+    ranges: &mut [u64],
+    range_count: usize,
     table: &mut [u64],
     count: usize,
     operations: &mut [u64],
     record: &[u8],
 ) -> Answer
-    ensures { λ a. ⌜ bind s (lent (now (table .entry)) count) (now (operations .entry)) (bytes (now («record» .entry))) ≡ record { answer = answerReply a; table = now (table .exit); operations = now (operations .exit) } ⌝ }
+    ensures { λ a. ⌜ bind s (lentWords (now (ranges .entry)) «range_count» (now (table .entry)) count) (now (operations .entry)) (bytes (now («record» .entry))) ≡ record { answer = answerReply a; table = now (table .exit); ranges = now (ranges .exit); operations = now (operations .exit) } ⌝ }
 {
-    match record::decode(record) {
+    match record::decode(record, rules::SPARSE) {
         Decoded::Refuse(w) => Answer::Refused(w),
-        Decoded::Record(r) => bind_request(s, table, count, operations, r),
+        Decoded::Record(r) => {
+            if r.flags == 0 {
+                return bind_plain(s, ranges, range_count, table, count, operations, r);
+            }
+            bind_flagged(s, ranges, range_count, table, count, operations, r)
+        }
     }
 }

@@ -51,7 +51,7 @@ fn ask(
     };
     let lent_table = &mut table[..4 * room];
     let lent_operations = &mut operations[..14 * (room + 1)];
-    answer_words(bind::bind(s, lent_table, count, lent_operations, q))
+    answer_words(bind::bind(s, &[], 0, lent_table, count, lent_operations, q))
 }
 
 // The first place where two runs of words differ; their length where they do not.

@@ -1,33 +1,33 @@
--- The edges of the rules, computed: the request check at 31 inputs around them, one listing, and words behind the last
--- mapping (Exactly covers them all); the longest table, whose 16,384 words no claim writes out, and one of a mapping
--- more.
+-- The edges of the rules, computed: the request check at 39 inputs around them, one listing, words behind the last
+-- mapping, and lists of sparse ranges (Exactly covers them all); the longest table, whose 16,384 words no claim writes
+-- out, and one of a mapping more.
 -- Assumes nothing.
 use mathlib.Core.Path.{_≡_, refl}
 use mathlib.Core.Bool.{Bool, true, _&&_}
-use mathlib.Core.List.{List, [], _∷_, _++_}
+use mathlib.Core.List.{List, [], _∷_, _++_, flatMap}
 use Prim.Native.Nat.{ℕ, _-_, _^_}
 use lib.Dec.{T, eqb, eqb→eq}
 use lib.ListN.{replicate}
-use Rattle.model.specs.Prelude.{Space, Nothing, Object, Seen, Grant}
+use Rattle.model.specs.Prelude.{Space, Nothing, Sparse, Object, Seen, Grant}
 use Rattle.model.specs.Rows.{Reply, refused, answered, decide}
 use Rattle.model.specs.Rules.{byNumbers, formRows, requestRows}
-use Rattle.model.specs.Calls.{spaceOf, checkRows, checkRequest, littleEndian, requestOf, recordRows, bytesOf, recordOf, numbers, Lent, lentRows, bindRows, bind, lookup}
+use Rattle.model.specs.Calls.{spaceOf, checkRows, checkRequest, littleEndian, requestOf, recordRows, bytesOf, recordOf, numbers, bytes, Lent, lentRows, bindRows, bind, lookup}
 use Rattle.model.specs.Table.{Table, mappingsIn, badPlace, tableRows}
-use Rattle.model.specs.Ranges.{rangesIn, listTests, bare, nextEdge}
+use Rattle.model.specs.Ranges.{rangesIn, listTests, bare, nextEdge, insertRange, listed as isListed, removeRange}
 use Rattle.model.specs.Cut.{below, above, hits, operations, translate, runEnd}
 use Rattle.model.specs.Exactly.{Each}
 use Rattle.model.proofs.Tests.{and-both}
 
 record Boundary : Type 0 where
-  bytes : List ℕ
+  record-bytes : List ℕ
   space : Space
   answer : ℕ
 
 abbrev case : List ℕ → Space → ℕ → Boundary
-case bs s n = record { bytes = bs; space = s; answer = n }
+case bs s n = record { record-bytes = bs; space = s; answer = n }
 
 abbrev Right : Boundary → Type 0
-Right b = checkRequest (b .bytes) (b .space) ≡ b .answer
+Right b = checkRequest (b .record-bytes) (b .space) ≡ b .answer
 
 -- address, size, object, offset
 abbrev map : ℕ → ℕ → ℕ → ℕ → List ℕ
@@ -40,6 +40,10 @@ unmap a n o f = recordOf (byNumbers 1 a n o f)
 abbrev form : ℕ → ℕ → ℕ → List ℕ
 form op flags pad =
     recordOf (record { op = op; flags = flags; object = 7; pad = pad; address = 0; offset = 0; size = 4096 })
+
+-- with the flag: op, object, offset
+abbrev sparse : ℕ → ℕ → ℕ → List ℕ
+sparse op o f = recordOf (record { op = op; flags = 256; object = o; pad = 0; address = 0; offset = f; size = 4096 })
 
 -- 16 pages from 0 on: nothing reserved; pages 4 and 5 reserved
 abbrev plain : Space
@@ -59,6 +63,15 @@ boundaries =
     ∷ case (form 2 1 0) plain 13
     ∷ case (form 0 1 0) plain 14
     ∷ case (form 0 0 1) (spaceOf 1 0 0 0) 14
+    -- the sparse flag, and those beside it; it stands above 1, and a request with it has no object and no offset
+    ∷ case (sparse 0 0 0) plain 0
+    ∷ case (sparse 1 0 0) plain 0
+    ∷ case (form 0 257 0) plain 14
+    ∷ case (form 0 256 1) plain 14
+    ∷ case (form 0 256 0) plain 9
+    ∷ case (form 0 256 0) (spaceOf 1 0 0 0) 1
+    ∷ case (sparse 0 0 4096) plain 9
+    ∷ case (sparse 0 0 1) plain 6
     -- a space: its end, its size, its reservation
     ∷ case (form 0 0 0) (spaceOf 0 (2 ^ 48) 0 0) 0
     ∷ case (form 0 0 0) (spaceOf 4096 (2 ^ 48) 0 0) 1
@@ -92,7 +105,7 @@ boundaries =
 
 -- one test over the whole listing
 right : Boundary → Bool
-right b = eqb (checkRequest (b .bytes) (b .space)) (b .answer)
+right b = eqb (checkRequest (b .record-bytes) (b .space)) (b .answer)
 
 allRight : List Boundary → Bool
 allRight [] = true
@@ -135,6 +148,82 @@ stale-bound : bind plain (alone (behind 7 0 1 1)) (replicate 42 9) (numbers 0 1 
     ≡ record { answer = refused 17 0; table = behind 7 0 1 1 .words; ranges = []; operations = replicate 42 9 }
 unfolding bind bindRows formRows tableRows lentRows decide badPlace mappingsIn
 stale-bound = refl
+
+-- ── lists of sparse ranges ──
+
+-- beside an empty table with room for two
+abbrev beside : List ℕ → ℕ → Lent
+beside ws n = record { table = record { words = replicate 8 0; count = 0 }; ranges = record { words = ws; count = n } }
+
+-- a list and its count, in a space with pages 4 and 5 reserved, and what a look-up at 4096 answers
+unfoldable lists : List (List ℕ × ℕ × Reply Seen)
+lists =
+    -- none; one; two that touch, seen up to where they do
+    ([], 0, answered (record { shown = Nothing; bytes = 61440 })) ∷ (4096 ∷ 8192 ∷ [], 1, answered (record { shown = Sparse; bytes = 8192 }))
+    ∷ (0 ∷ 8192 ∷ 8192 ∷ 8192 ∷ 0 ∷ 0 ∷ [], 2, answered (record { shown = Sparse; bytes = 4096 }))
+    -- the longest, and one range more; an odd length; a count above what it holds
+    ∷ (replicate 128 0, 0, answered (record { shown = Nothing; bytes = 61440 })) ∷ (replicate 130 0, 0, refused 18 0) ∷ (0 ∷ [], 0, refused 18 0)
+    ∷ ([], 1, refused 18 0) ∷ (0 ∷ 4096 ∷ [], 2, refused 18 0)
+    -- off a page; empty; overlapping, out of order; outside, in the reservation, up to it
+    ∷ (1 ∷ 4096 ∷ [], 1, refused 18 0) ∷ (0 ∷ 1 ∷ [], 1, refused 18 0) ∷ (4096 ∷ 0 ∷ [], 1, refused 18 0)
+    ∷ (0 ∷ 8192 ∷ 4096 ∷ 4096 ∷ [], 2, refused 18 0) ∷ (8192 ∷ 4096 ∷ 0 ∷ 4096 ∷ [], 2, refused 18 0)
+    ∷ (61440 ∷ 8192 ∷ [], 1, refused 18 0) ∷ (12288 ∷ 8192 ∷ [], 1, refused 18 0) ∷ (12288 ∷ 4096 ∷ [], 1, answered (record { shown = Nothing; bytes = 8192 }))
+    -- a word behind the last: the first, the last
+    ∷ (0 ∷ 4096 ∷ 1 ∷ 0 ∷ [], 1, refused 18 0) ∷ (0 ∷ 4096 ∷ 0 ∷ 1 ∷ [], 1, refused 18 0)
+    ∷ []
+
+lists-right : Each (λ (a : List ℕ × ℕ × Reply Seen). lookup reserved (beside (a .0) (a .1)) 4096 ≡ a .2) lists
+unfolding lists lookup tableRows lentRows rangesIn listTests decide badPlace mappingsIn translate runEnd bare nextEdge
+lists-right = (refl, (refl, (refl, (refl, (refl, (refl, (refl, (refl, (refl, (refl, (refl, (refl, (refl, (refl, (refl, (refl, (refl, (refl, tt))))))))))))))))))
+
+-- a request with the flag on a list: op, address and size, the list's words and count, the answer and the words after it
+record Listed : Type 0 where
+  op : ℕ
+  address : ℕ
+  size : ℕ
+  before : List ℕ
+  count : ℕ
+  answer : Reply Grant
+  after : List ℕ
+
+-- a table with a mapping of page 1 and room for another, which it leaves alone
+abbrev mapped : List ℕ → ℕ → Lent
+mapped ws n = record { table = record { words = 4096 ∷ 4096 ∷ 7 ∷ 0 ∷ replicate 4 0; count = 1 }; ranges = record { words = ws; count = n } }
+
+-- no operation, the table's count, the list's
+abbrev relisted : ℕ → Reply Grant
+relisted n = answered (record { operations = 0; count = 1; ranges = n })
+
+abbrev listed : ℕ → ℕ → ℕ → List ℕ → ℕ → Reply Grant → List ℕ → Listed
+listed op a n ws k u vs = record { op = op; address = a; size = n; before = ws; count = k; answer = u; after = vs }
+
+unfoldable flagged : List Listed
+flagged =
+    -- in front, between, behind; touching on both sides; over the mapping
+    listed 0 0 4096 (8192 ∷ 4096 ∷ 0 ∷ 0 ∷ []) 1 (relisted 2) (0 ∷ 4096 ∷ 8192 ∷ 4096 ∷ [])
+    ∷ listed 0 4096 4096 (0 ∷ 4096 ∷ 8192 ∷ 4096 ∷ 0 ∷ 0 ∷ []) 2 (relisted 3) (0 ∷ 4096 ∷ 4096 ∷ 4096 ∷ 8192 ∷ 4096 ∷ [])
+    ∷ listed 0 61440 4096 (0 ∷ 4096 ∷ 0 ∷ 0 ∷ []) 1 (relisted 2) (0 ∷ 4096 ∷ 61440 ∷ 4096 ∷ [])
+    -- 19, above 11; 11 alone; no list at all
+    ∷ listed 0 4096 8192 (8192 ∷ 4096 ∷ []) 1 (refused 19 0) (8192 ∷ 4096 ∷ [])
+    ∷ listed 0 4096 4096 (8192 ∷ 4096 ∷ []) 1 (refused 11 0) (8192 ∷ 4096 ∷ [])
+    ∷ listed 0 4096 4096 [] 0 (refused 11 0) []
+    -- removed, with the mapping touching it; 20: another size, another start, the mapping in it
+    ∷ listed 1 8192 4096 (0 ∷ 4096 ∷ 8192 ∷ 4096 ∷ []) 2 (relisted 1) (0 ∷ 4096 ∷ 0 ∷ 0 ∷ [])
+    ∷ listed 1 0 4096 (0 ∷ 4096 ∷ 8192 ∷ 4096 ∷ []) 2 (relisted 1) (8192 ∷ 4096 ∷ 0 ∷ 0 ∷ [])
+    ∷ listed 1 8192 4096 (8192 ∷ 8192 ∷ []) 1 (refused 20 0) (8192 ∷ 8192 ∷ [])
+    ∷ listed 1 12288 4096 (8192 ∷ 8192 ∷ []) 1 (refused 20 0) (8192 ∷ 8192 ∷ [])
+    ∷ listed 1 0 8192 (0 ∷ 8192 ∷ []) 1 (refused 20 0) (0 ∷ 8192 ∷ [])
+    ∷ []
+
+Flagged : Listed → Type 0
+Flagged a =
+    bind plain (mapped (a .before) (a .count)) (replicate 42 9)
+    (bytes (recordOf (record { op = a .op; flags = 256; object = 0; pad = 0; address = a .address; offset = 0; size = a .size })))
+    ≡ record { answer = a .answer; table = mapped [] 0 .table .words; ranges = a .after; operations = replicate 42 9 }
+
+flagged-right : Each Flagged flagged
+unfolding Flagged flagged bind bindRows formRows requestRows tableRows lentRows rangesIn listTests decide badPlace mappingsIn insertRange isListed removeRange flatMap littleEndian requestOf bytesOf recordOf
+flagged-right = (refl, (refl, (refl, (refl, (refl, (refl, (refl, (refl, (refl, (refl, (refl, tt)))))))))))
 
 -- ── the longest table, and one mapping more ──
 

@@ -20,10 +20,10 @@ use Rattle.model.proofs.Numbers.{order}
 use Rattle.model.proofs.Tests.{tests, all-true, all-same}
 use Rattle.model.proofs.Actions.{each-mem}
 use Rattle.model.proofs.Table.{top, table-says}
-use Rattle.model.proofs.Ranges.{list-row-says}
 use Rattle.model.proofs.Rows.{Passed, answered-passed, passes}
 use Rattle.model.proofs.Groups.{lent-passed}
-use Rattle.model.proofs.See.{runEnd-none, runEnd-free, rest-free, shows, bytes-of, has-or-free, inside-or-not, offEnd, bare-none, see-member, see-free, see-outside}
+use Rattle.model.proofs.Ranges.{list-row-says, bare-in, bare-none}
+use Rattle.model.proofs.See.{runEnd-none, runEnd-free, rest-free, shows, bytes-of, has-or-free, inside-or-not, offEnd, see-member, see-free, see-outside}
 
 -- ── the next edge ──
 
@@ -137,15 +137,6 @@ module _ (s : Space) (x : ℕ) (i : InSpace s x) where
   next-some ys (m ∷ ms) = let n = next-some ys ms in (nearer x (m .address) (n .0), next-mapping s ys m ms x (n .0) (n .1))
 
 -- ── off mappings ──
-
-bare-in : (ys : List Range) (y : Range) (x : ℕ) → y ∈ ys → InRange y x → bare ys x ≡ Sparse
-unfolding bare
-bare-in (z ∷ ys) y x (List·Memᴰ·head e) b = let c : InRange z x = rw e at b in rw (all-true (inRangeTests z x) (omega tests), bare)
-bare-in (z ∷ ys) y x (List·Memᴰ·tail i) b = go (all (inRangeTests z x)) (bare-in ys y x i b)
-  where
-    go : (t : Bool) → bare ys x ≡ Sparse → choose t Sparse (bare ys x) ≡ Sparse
-    go true ih = refl
-    go false ih = ih
 
 -- two bytes that the same ranges have
 bare-same : (ys : List Range) (x z : ℕ) → ((y : Range) → y ∈ ys → (InRange y x → InRange y z) × (InRange y z → InRange y x)) → bare ys x ≡ bare ys z

@@ -1,21 +1,22 @@
 -- A list of sparse ranges: the tests hold exactly if the rules in words are kept, and what is written is read back.
 -- Assumes nothing.
-use mathlib.Core.Path.{_≡_, refl, sym, ap, subst, _∙_}
-use mathlib.Core.Logic.{_⊎_, inl, inr}
+use mathlib.Core.Path.{_≡_, refl, sym, ap, _∙_}
+use mathlib.Core.Logic.{inl, inr}
+use mathlib.Core.Bool.{Bool, true, false}
 use mathlib.Core.List.{List, [], _∷_, _++_, map, flatMap, List·Memᴰ·head, List·Memᴰ·tail, List·Memᴰ·not-nil, List·Memᴰ·cases-cons}
-use Prim.Native.Nat.{ℕ, zero, suc, _+_, _-_, _*_, _≤_, _<_}
+use Prim.Native.Nat.{ℕ, zero, suc, _+_, _-_, _*_, _≤_}
 use native.Mathlib.Omega.{arith}
 use lib.Dec.{T, eqb, eqb→eq}
 use lib.ListN.{length, take, drop, replicate, length-append, length-replicate}
 use lib.Seq.{drop-append-seam}
 use Rattle.model.specs.Prelude.{Range, Space, Mapping, Request, Nothing, Sparse}
+use Rattle.model.specs.Rows.{all, choose}
 use Rattle.model.specs.Rules.{end, stop, apart}
 use Rattle.model.specs.Table.{zeroTests}
 use Rattle.model.specs.Ranges.{RangeList, rangesIn, ranges, rangeWords, listWritten, rangeEnd, rangeTests, listTests, listRow, inRangeTests, bare, sameRange, listed}
 use Rattle.model.specs.Cut.{spared}
 use Rattle.model.specs.Exactly.{Each, _∈_, Ordered, ShareByte, RangeRules, ListRules}
 use Rattle.model.specs.Lookups.{InRange, NoRange}
-use Rattle.model.proofs.Numbers.{order}
 use Rattle.model.proofs.Actions.{each, each-map}
 use Rattle.model.proofs.Tests.{tests, Says, all-true, all-false, and-both, both-and, or-cases, or-left, or-right, alls-split, alls-join, each-says, eq→eqb}
 use Rattle.model.proofs.Rules.{apart-shares, shares-apart}
@@ -117,28 +118,20 @@ mappings-apart r ms = each-says _ _ (λ m h. apart-shares _ _ _ _ (omega tests))
 
 -- ── what an address shows off mappings ──
 
--- a range in front of others has the byte, or not
-bare-here : (y : Range) (ys : List Range) (x : ℕ) → InRange y x → bare (y ∷ ys) x ≡ Sparse
-unfolding bare
-bare-here y ys x i = rw (all-true (inRangeTests y x) (omega tests))
-
-bare-past : (y : Range) (ys : List Range) (x : ℕ) → (InRange y x → ⊥) → bare (y ∷ ys) x ≡ bare ys x
-unfolding bare
-bare-past y ys x n = rw (all-false (inRangeTests y x) (λ t. n (omega tests)))
-
 pub bare-in : (ys : List Range) (y : Range) (x : ℕ) → y ∈ ys → InRange y x → bare ys x ≡ Sparse
-bare-in (z ∷ ys) y x (List·Memᴰ·head e) i = bare-here z ys x (subst (λ (w : Range). InRange w x) e i)
-bare-in (z ∷ ys) y x (List·Memᴰ·tail m) i = go (order (z .start) x) (order (rangeEnd z) x) (bare-in ys y x m i)
+unfolding bare
+bare-in (z ∷ ys) y x (List·Memᴰ·head e) i = let c : InRange z x = rw e at i in rw (all-true (inRangeTests z x) (omega tests), bare)
+bare-in (z ∷ ys) y x (List·Memᴰ·tail m) i = go (all (inRangeTests z x)) (bare-in ys y x m i)
   where
-    go : (z .start ≤ x) ⊎ (x < z .start) → (rangeEnd z ≤ x) ⊎ (x < rangeEnd z) → bare ys x ≡ Sparse → bare (z ∷ ys) x ≡ Sparse
-    go (inl h) (inr k) ih = bare-here z ys x (h, k)
-    go (inl h) (inl k) ih = bare-past z ys x (λ j. omega arith) ∙ ih
-    go (inr h) k ih = bare-past z ys x (λ j. omega arith) ∙ ih
+    go : (t : Bool) → bare ys x ≡ Sparse → choose t Sparse (bare ys x) ≡ Sparse
+    go true e = refl
+    go false e = e
 
 pub bare-none : (ys : List Range) (x : ℕ) → NoRange ys x → bare ys x ≡ Nothing
 unfolding bare
 bare-none [] x n = refl
-bare-none (y ∷ ys) x n = bare-past y ys x (n y (List·Memᴰ·head refl)) ∙ bare-none ys x (λ z m. n z (List·Memᴰ·tail m))
+bare-none (y ∷ ys) x n =
+    rw (all-false (inRangeTests y x) (λ t. n y (List·Memᴰ·head refl) (omega tests)), bare) (bare-none ys x (λ z i. n z (List·Memᴰ·tail i)))
 
 -- ── in words ──
 

@@ -1,7 +1,7 @@
 -- What is seen at an address, mapping by mapping: the one that has the byte or the next one behind it decides, beside
 -- the edges of sparse ranges.
 -- Assumes nothing.
-use mathlib.Core.Path.{_≡_, refl, sym, ap, ap₂, _∙_}
+use mathlib.Core.Path.{_≡_, refl, sym, ap, ap₂, subst, _∙_}
 use mathlib.Core.Logic.{_⊎_, inl, inr}
 use mathlib.Core.Bool.{Bool, true, false}
 use mathlib.Core.List.{List, [], _∷_, List·Memᴰ·head, List·Memᴰ·tail, List·Memᴰ·not-nil}
@@ -9,18 +9,19 @@ use Prim.Native.Nat.{ℕ, _+_, _-_, _≤_, _<_, min}
 use native.Mathlib.Omega.{arith}
 use lib.Dec.{ltb}
 use borrow.Author.Tests.{lt-ltb, le-ltb}
-use Rattle.model.specs.Prelude.{Range, Space, Mapping, Shown, Nothing, Sparse, Object, Seen}
+use Rattle.model.specs.Prelude.{Range, Space, Mapping, Shown, Nothing, Object, Seen}
 use Rattle.model.specs.Rows.{choose}
 use Rattle.model.specs.Rules.{end}
-use Rattle.model.specs.Ranges.{rangeEnd, inRangeTests, bare, nearer, nextEdge}
+use Rattle.model.specs.Ranges.{rangeEnd, bare, nearer, nextEdge}
 use Rattle.model.specs.Cut.{insideTests, translate, runEnd, inSpaceTests, bytesTo, see}
 use Rattle.model.specs.Exactly.{_∈_, Each, Ascends, MappingRules, TableRules, RangeRules}
-use Rattle.model.specs.Lookups.{Has, Free, NoRange, InSpace, nothing}
+use Rattle.model.specs.Lookups.{Has, Free, InSpace, nothing}
 use Rattle.model.proofs.Numbers.{order}
 use Rattle.model.proofs.Tests.{tests, all-true, all-false}
 use Rattle.model.proofs.Actions.{each-mem}
 use Rattle.model.proofs.Translate.{has-or-not, translate-here, translate-past, hides-all}
 use Rattle.model.proofs.Table.{top}
+use Rattle.model.proofs.Ranges.{bare-none}
 
 -- ── where the answer ends, with a mapping in front of others ──
 
@@ -151,12 +152,6 @@ see-free s ys ms x i f = ap₂ shows (hides-all (bare ys x) ms x f) (bytes-insid
 
 -- ── outside the space ──
 
-pub bare-none : (ys : List Range) (x : ℕ) → NoRange ys x → bare ys x ≡ Nothing
-unfolding bare
-bare-none [] x n = refl
-bare-none (y ∷ ys) x n =
-    rw (all-false (inRangeTests y x) (λ t. n y (List·Memᴰ·head refl) (omega tests)), bare) (bare-none ys x (λ z i. n z (List·Memᴰ·tail i)))
-
 bare-outside : (s : Space) (ys : List Range) → Each (RangeRules s) ys → (x : ℕ) → (InSpace s x → ⊥) → bare ys x ≡ Nothing
 bare-outside s ys q x n = bare-none ys x (λ y i b. let k = each-mem (RangeRules s) ys y q i .within in n (omega arith, omega arith))
 
@@ -229,36 +224,48 @@ runEnd-least : (to : ℕ) (ms : List Mapping) (x : ℕ) → Free ms x → x ≤ 
 runEnd-least to [] x f h = rw (runEnd-none to x) h
 runEnd-least to (m ∷ ms) x f h = rw (runEnd-free to m ms x f) (nearer-least x (m .address) (runEnd to ms x) (runEnd-least to ms x (rest-free f) h))
 
--- what is seen beside ranges at x, from what is seen there without them
-abbrev pub besideFor : Shown → List Range → ℕ → Seen → Seen
-besideFor Nothing ys x v = record { shown = bare ys x; bytes = nextEdge (x + v .bytes) ys x - x }
-besideFor Sparse ys x v = v
-besideFor (Object o f) ys x v = v
-
-abbrev pub beside : List Range → ℕ → Seen → Seen
-beside ys x v = besideFor (v .shown) ys x v
-
+-- from what is seen at x without them
 module _ (s : Space) (ys : List Range) (ms : List Mapping) (q : Each (RangeRules s) ys) (r : TableRules s ms) (x : ℕ) where
-  beside-outside : (InSpace s x → ⊥) → see s ys ms x ≡ beside ys x (see s [] ms x)
-  beside-outside n =
+  abbrev alone : Seen
+  alone = see s [] ms x
+
+  abbrev Off : Seen → Type 0
+  Off v = see s ys ms x ≡ shows (bare ys x) (nextEdge (x + v .bytes) ys x - x)
+
+  off-outside : (InSpace s x → ⊥) → Off alone
+  off-outside n =
       let none : x + 0 ≡ x = omega arith in
       let e : nextEdge (x + 0) ys x ≡ x = ap (λ (k : ℕ). nextEdge k ys x) none ∙ nextEdge-here ys x in
-      see-outside s ys ms q r x n
-      ∙ sym (ap (beside ys x) (see-outside s [] ms tt r x n) ∙ ap₂ shows (bare-outside s ys q x n) (ap (λ (e : ℕ). e - x) e ∙ omega arith))
+      subst Off (sym (see-outside s [] ms tt r x n))
+      (see-outside s ys ms q r x n ∙ sym (ap₂ shows (bare-outside s ys q x n) (ap (λ (e : ℕ). e - x) e ∙ omega arith)))
 
-  beside-free : InSpace s x → Free ms x → see s ys ms x ≡ beside ys x (see s [] ms x)
+  off-free : InSpace s x → Free ms x → Off alone
   unfolding bare nextEdge
-  beside-free i f =
+  off-free i f =
       let to : ℕ = runEnd (top s) ms x in
       let e : x + (to - x) ≡ to = omega (arith, runEnd-least (top s) ms x f (omega arith)) in
-      see-free s ys ms x i f
-      ∙ ap (λ (e : ℕ). shows (bare ys x) (e - x)) (runEnd-edge (top s) ys ms x f ∙ ap (λ (k : ℕ). nextEdge k ys x) (sym e))
-      ∙ sym (ap (beside ys x) (see-free s [] ms x i f))
+      subst Off (sym (see-free s [] ms x i f))
+      (see-free s ys ms x i f ∙ ap (λ (e : ℕ). shows (bare ys x) (e - x)) (runEnd-edge (top s) ys ms x f ∙ ap (λ (k : ℕ). nextEdge k ys x) (sym e)))
 
-  pub see-beside : see s ys ms x ≡ beside ys x (see s [] ms x)
-  see-beside = go (inside-or-not s x) (has-or-free ms x)
+  -- a mapping has x: ranges have no say
+  on-mapping : InSpace s x → (m : Mapping) → m ∈ ms → Has m x → see s ys ms x ≡ alone
+  on-mapping i m k b = see-member s ys ms m x (r .1) i k b ∙ sym (see-member s [] ms m x (r .1) i k b)
+
+  pub see-off : alone .shown ≡ Nothing → Off alone
+  see-off e = go (inside-or-not s x) (has-or-free ms x)
     where
-      go : InSpace s x ⊎ (InSpace s x → ⊥) → ((m : Mapping) × m ∈ ms × Has m x) ⊎ Free ms x → see s ys ms x ≡ beside ys x (see s [] ms x)
-      go (inr n) w = beside-outside n
-      go (inl i) (inr f) = beside-free i f
-      go (inl i) (inl (m, k, b)) = see-member s ys ms m x (r .1) i k b ∙ sym (ap (beside ys x) (see-member s [] ms m x (r .1) i k b))
+      go : InSpace s x ⊎ (InSpace s x → ⊥) → ((m : Mapping) × m ∈ ms × Has m x) ⊎ Free ms x → Off alone
+      go (inr n) w = off-outside n
+      go (inl i) (inr f) = off-free i f
+      go (inl i) (inl (m, k, b)) =
+          let d : Object (m .object) (m .offset + (x - m .address)) ≡ Nothing = sym (ap (λ (v : Seen). v .shown) (see-member s [] ms m x (r .1) i k b)) ∙ e in
+          let z : _≡_ {A = ℕ} 0 1 = cc in
+          absurd (omega arith)
+
+  pub see-on : (alone .shown ≡ Nothing → ⊥) → see s ys ms x ≡ alone
+  see-on n = go (inside-or-not s x) (has-or-free ms x)
+    where
+      go : InSpace s x ⊎ (InSpace s x → ⊥) → ((m : Mapping) × m ∈ ms × Has m x) ⊎ Free ms x → see s ys ms x ≡ alone
+      go (inr k) w = absurd (n (ap (λ (v : Seen). v .shown) (see-outside s [] ms tt r x k)))
+      go (inl i) (inr f) = absurd (n (ap (λ (v : Seen). v .shown) (see-free s [] ms x i f) ∙ bare-none [] x (λ y k. absurd (List·Memᴰ·not-nil k))))
+      go (inl i) (inl (m, k, b)) = on-mapping i m k b

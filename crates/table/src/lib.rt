@@ -135,11 +135,11 @@ pub fn is_free(t: &[u64], count: usize, from: u64, to: u64) -> bool
     ensures { λ b. ⌜ b ≡ all (freeTests from to (mappingsIn count (now (t .entry)))) ⌝ }
 {
     let i = first_ending_behind(t, count, from);
-    if i == count {
-        return true;
+    if i < count {
+        let m = read_mapping(t, i);
+        return to <= m.address;
     }
-    let m = read_mapping(t, i);
-    to <= m.address
+    true
 }
 
 // What is seen at `x` by the first mapping that ends behind it, the next one where `x` is not in it.

@@ -4,7 +4,7 @@ use mathlib.Core.Path.{_≡_, refl, sym, ap, _∙_}
 use mathlib.Core.List.{List, _∷_}
 use Prim.Native.Nat.{ℕ}
 use Rattle.model.specs.Rows.{Reply, refused, answered, verdict}
-use Rattle.model.specs.Rules.{spaceRow, requestRows}
+use Rattle.model.specs.Rules.{sparseFlag, spaceRow, requestRows}
 use Rattle.model.specs.Calls.{recordRows, requestOf, decode, numberOf, checkRows, checkRequest}
 use Rattle.model.proofs.Rows.{andThen, decide-append, decide-verdict}
 use Rattle.model.specs.declared.Space.{Space}
@@ -22,10 +22,10 @@ by-verdict : (u : Reply (Unit {0})) (r : Request) (s : Space) → numberOf (andT
 by-verdict (refused n p) r s = refl
 by-verdict (answered t) r s = refl
 
-pub check-by : (bs : List ℕ) (s : Space) {d : Reply Request} → d ≡ decode bs → then d s ≡ checkRequest bs s
+pub check-by : (bs : List ℕ) (s : Space) {d : Reply Request} → d ≡ decode sparseFlag bs → then d s ≡ checkRequest bs s
 unfolding checkRequest checkRows decode
 check-by bs s e =
     let r = requestOf bs in
-    ap (λ d. then d s) (e ∙ decide-verdict (recordRows bs) r)
-    ∙ sym (by-verdict (verdict (recordRows bs)) r s)
-    ∙ sym (ap numberOf (decide-append (recordRows bs) (spaceRow s ∷ requestRows s r) tt))
+    ap (λ d. then d s) (e ∙ decide-verdict (recordRows sparseFlag bs) r)
+    ∙ sym (by-verdict (verdict (recordRows sparseFlag bs)) r s)
+    ∙ sym (ap numberOf (decide-append (recordRows sparseFlag bs) (spaceRow s ∷ requestRows s r) tt))

@@ -10,17 +10,16 @@ use Rattle.model.specs.declared.Grant.{Grant}
 use Rattle.model.specs.declared.Request.{Request}
 use Rattle.model.specs.declared.Seen.{Seen}
 use Rattle.model.specs.declared.Shown.{Shown}
-use Rattle.model.specs.declared.Shown.the-variants.{Nothing, Object}
+use Rattle.model.specs.declared.Shown.the-variants.{Nothing, Sparse, Object}
 use Rattle.model.specs.declared.Space.{Space}
 use Rattle.model.specs.Rows.{Row, Reply, refused, answered, decide, verdict, numberOf}
-use Rattle.model.specs.Rules.{formRows, requestRows}
-use Rattle.model.specs.Table.{Table, mappings, operationsRow, tableRows}
-use Rattle.model.specs.Cut.{see}
-use Rattle.model.specs.Calls.{Asking, numbers, bytes, asked, requestOf, recordRow, recordRows, roomRow, bindRows, grantOf, bind, lookup, checkRows, checkRequest}
+use Rattle.model.specs.Rules.{sparseFlag, formRows, requestRows}
+use Rattle.model.specs.Table.{operationsRow}
+use Rattle.model.specs.Calls.{Asking, numbers, bytes, asked, requestOf, recordRow, recordRows, Lent, lentRows, purpose, lastRows, bindRows, grantFor, bind, seeIn, lookup, checkRows, checkRequest}
 use Rattle.model.specs.Exactly.{Each}
 use Rattle.model.proofs.Actions.{each-append, each-map}
 use Rattle.model.proofs.Rows.{not-both, decide-holds}
-use Rattle.model.proofs.Groups.{each-table, each-form, each-request}
+use Rattle.model.proofs.Groups.{each-lent, each-form, each-request}
 use Rattle.model.proofs.Exactly.{answer-is}
 use Rattle.waylluqen.specs.declared.AnswerWords.{AnswerWords}
 use Rattle.waylluqen.specs.declared.Translation.{Translation}
@@ -42,51 +41,55 @@ told ws a h = decide-holds Told ws a (each-map Numbered _ ws (λ w k. inr k) h) 
 request-numbered : (s : Space) (r : Request) → Each Numbered (requestRows s r)
 request-numbered s r = each-request Numbered s r (omega arith) (omega arith) (omega arith) (omega arith) (omega arith)
 
-form-numbered : (r : Request) → Each Numbered (formRows r)
-form-numbered r = each-form Numbered r (omega arith) (omega arith)
+form-numbered : (r : Request) → Each Numbered (formRows sparseFlag r)
+form-numbered r = each-form Numbered sparseFlag r (omega arith) (omega arith)
 
-table-numbered : (s : Space) (between : List Row) (t : Table) → Each Numbered between → Each Numbered (tableRows s between t)
-table-numbered s between t k = each-table Numbered s between t (omega arith) (omega arith) k (omega arith) (omega arith) (omega arith)
+lent-numbered : (s : Space) (between : List Row) (l : Lent) → Each Numbered between → Each Numbered (lentRows s between l)
+lent-numbered s between l k =
+    each-lent Numbered s between l (omega arith) (omega arith) k (omega arith) (omega arith) (omega arith) (omega arith)
 
-bind-numbered : (s : Space) (t : Table) (n : ℕ) (q : Asking) → Each Numbered (bindRows s t n q)
+bind-numbered : (s : Space) (l : Lent) (n : ℕ) (q : Asking) → Each Numbered (bindRows s l n q)
 unfolding bindRows
-bind-numbered s t n q = (
+bind-numbered s l n q = (
   twelve q,
-  each-append Numbered (formRows (asked q)) _ (form-numbered (asked q))
-      (each-append Numbered (tableRows s (operationsRow n t ∷ []) t) _ (table-numbered s (operationsRow n t ∷ []) t (omega arith, tt))
-      (each-append Numbered (requestRows s (asked q)) (roomRow t (asked q) ∷ []) (request-numbered s (asked q)) (omega arith, tt))),
+  each-append Numbered (formRows sparseFlag r) _ (form-numbered r)
+      (each-append Numbered (lentRows s (operationsRow n (l .table) ∷ []) l) _ (lent-numbered s (operationsRow n (l .table) ∷ []) l (omega arith, tt))
+      (each-append Numbered (requestRows s r) (lastRows (purpose r) r l) (request-numbered s r) (omega arith, (omega arith, (omega arith, tt))))),
 )
   where
+    r : Request
+    r = asked q
+
     twelve : (q : Asking) → Numbered (recordRow q)
     twelve (numbers op address size object offset) = omega arith
     twelve (bytes bs) = omega arith
 
 bind-told : (a : Reply Grant) → BindGives a → Told a
 unfolding bind
-bind-told a (s, t, os, q, e) =
-    let rows = bindRows s t (length os) q in
-    let grant = grantOf (asked q) (mappings t) in
-    subst Told (sym (answer-is (decide rows grant) (asked q) t os) ∙ e) (told rows grant (bind-numbered s t (length os) q))
+bind-told a (s, l, os, q, e) =
+    let rows = bindRows s l (length os) q in
+    let grant = grantFor (purpose (asked q)) (asked q) l in
+    subst Told (sym (answer-is (decide rows grant) (purpose (asked q)) (asked q) l os) ∙ e) (told rows grant (bind-numbered s l (length os) q))
 
 lookup-told : (a : Reply Seen) → LookupGives a → Told a
 unfolding lookup
-lookup-told a (s, t, x, e) = subst Told e (told (tableRows s [] t) (see s (mappings t) x) (table-numbered s [] t tt))
+lookup-told a (s, l, x, e) = subst Told e (told (lentRows s [] l) (seeIn s l x) (lent-numbered s [] l tt))
 
 check-told : (bs : List ℕ) (s : Space) → Told (verdict (checkRows bs s))
 unfolding checkRows recordRows
 check-told bs s = told (checkRows bs s) tt (
   omega arith,
-  each-append Numbered (formRows (requestOf bs)) _ (form-numbered (requestOf bs))
+  each-append Numbered (formRows sparseFlag (requestOf bs)) _ (form-numbered (requestOf bs))
       (omega arith, request-numbered s (requestOf bs)),
 )
 
 -- ── replies by their words ──
 
-module _ (count : ℕ) where
+module _ (count ranges : ℕ) where
   abbrev grantIn : AnswerWords → Grant
-  grantIn w = record { operations = w .operations; count = w .count }
+  grantIn w = record { operations = w .operations; count = w .count; ranges = w .ranges }
 
-  bind-pins : (a b : Reply Grant) → Told a → Told b → answerOf count a ≡ answerOf count b → a ≡ b
+  bind-pins : (a b : Reply Grant) → Told a → Told b → answerOf count ranges a ≡ answerOf count ranges b → a ≡ b
   bind-pins (refused n p) (refused m q) h k e = λ i. refused (e i .refusal) (e i .place)
   bind-pins (refused n p) (answered g) h k e = absurd (omega (arith, h, ap (λ (w : AnswerWords). w .refusal) e))
   bind-pins (answered g) (refused n p) h k e = absurd (omega (arith, k, ap (λ (w : AnswerWords). w .refusal) e))
@@ -95,16 +98,23 @@ module _ (count : ℕ) where
 -- words of what is shown
 shown-zero : (v : Shown) (n : ℕ) → shownWords v n .refusal ≡ 0
 shown-zero Nothing n = refl
+shown-zero Sparse n = refl
 shown-zero (Object o f) n = refl
 
 shown-pins : (v w : Shown) (n m : ℕ) → shownWords v n ≡ shownWords w m → v ≡ w
 shown-pins Nothing Nothing n m e = refl
+shown-pins Nothing Sparse n m e = absurd (omega (arith, ap (λ (w : Translation). w .shown) e))
+shown-pins Sparse Nothing n m e = absurd (omega (arith, ap (λ (w : Translation). w .shown) e))
+shown-pins Sparse Sparse n m e = refl
+shown-pins Sparse (Object o f) n m e = absurd (omega (arith, ap (λ (w : Translation). w .shown) e))
+shown-pins (Object o f) Sparse n m e = absurd (omega (arith, ap (λ (w : Translation). w .shown) e))
 shown-pins Nothing (Object o f) n m e = absurd (omega (arith, ap (λ (w : Translation). w .shown) e))
 shown-pins (Object o f) Nothing n m e = absurd (omega (arith, ap (λ (w : Translation). w .shown) e))
 shown-pins (Object o f) (Object p g) n m e = λ i. Object (e i .object) (e i .offset)
 
 bytes-word : (v : Shown) (n : ℕ) → shownWords v n .bytes ≡ n
 bytes-word Nothing n = refl
+bytes-word Sparse n = refl
 bytes-word (Object o f) n = refl
 
 lookup-pins : (a b : Reply Seen) → Told a → Told b → translationOf a ≡ translationOf b → a ≡ b
@@ -121,16 +131,16 @@ lookup-pins (answered v) (answered u) h k e =
 pub readings : Readings
 unfolding checkRequest
 readings = record {
-  bind-zero = λ count a g. bind-zero count a (bind-told a g);
+  bind-zero = λ count ranges a g. bind-zero count ranges a (bind-told a g);
   lookup-zero = λ a g. lookup-zero a (lookup-told a g);
   check-zero = λ bs s. check-zero (verdict (checkRows bs s)) (check-told bs s);
-  bind-pins = λ count a b g h. bind-pins count a b (bind-told a g) (bind-told b h);
+  bind-pins = λ count ranges a b g h. bind-pins count ranges a b (bind-told a g) (bind-told b h);
   lookup-pins = λ a b g h. lookup-pins a b (lookup-told a g) (lookup-told b h);
 }
   where
-    bind-zero : (count : ℕ) (a : Reply Grant) → Told a → (answerOf count a .refusal ≡ 0) ↔ ((g : Grant) × (a ≡ answered g))
-    bind-zero count (refused n p) h = (λ z. absurd (omega (arith, h, z)), λ w. absurd (not-both (w .1)))
-    bind-zero count (answered g) h = (λ _. (g, refl), λ _. refl)
+    bind-zero : (count ranges : ℕ) (a : Reply Grant) → Told a → (answerOf count ranges a .refusal ≡ 0) ↔ ((g : Grant) × (a ≡ answered g))
+    bind-zero count ranges (refused n p) h = (λ z. absurd (omega (arith, h, z)), λ w. absurd (not-both (w .1)))
+    bind-zero count ranges (answered g) h = (λ _. (g, refl), λ _. refl)
 
     lookup-zero : (a : Reply Seen) → Told a → (translationOf a .refusal ≡ 0) ↔ ((v : Seen) × (a ≡ answered v))
     lookup-zero (refused n p) h = (λ z. absurd (omega (arith, h, z)), λ w. absurd (not-both (w .1)))

@@ -9,24 +9,23 @@ use Rattle.model.specs.declared.Grant.{Grant}
 use Rattle.model.specs.declared.Seen.{Seen}
 use Rattle.model.specs.declared.Space.{Space}
 use Rattle.model.specs.Rows.{Reply, answered, verdict}
-use Rattle.model.specs.Table.{Table}
-use Rattle.model.specs.Calls.{Asking, bind, lookup, checkRows, checkRequest}
+use Rattle.model.specs.Calls.{Asking, Lent, bind, lookup, checkRows, checkRequest}
 use Rattle.waylluqen.specs.Words.{translationOf, answerOf}
 
 -- the replies that calls give
 abbrev pub BindGives : Reply Grant → Type 0
-BindGives a = (s : Space) × (t : Table) × (os : List ℕ) × (q : Asking) × (bind s t os q .answer ≡ a)
+BindGives a = (s : Space) × (l : Lent) × (os : List ℕ) × (q : Asking) × (bind s l os q .answer ≡ a)
 
 abbrev pub LookupGives : Reply Seen → Type 0
-LookupGives a = (s : Space) × (t : Table) × (x : ℕ) × (lookup s t x ≡ a)
+LookupGives a = (s : Space) × (l : Lent) × (x : ℕ) × (lookup s l x ≡ a)
 
 -- a reading pins the replies of these
 abbrev pub PinsGiven : {A B : Type 0} → (A → Type 0) → (A → B) → Type 0
 PinsGiven {A} Gives read = (a b : A) → Gives a → Gives b → read a ≡ read b → a ≡ b
 
 pub record Readings : Type 0 where
-  pub bind-zero : (count : ℕ) (a : Reply Grant) → BindGives a → (answerOf count a .refusal ≡ 0) ↔ ((g : Grant) × (a ≡ answered g))
+  pub bind-zero : (count ranges : ℕ) (a : Reply Grant) → BindGives a → (answerOf count ranges a .refusal ≡ 0) ↔ ((g : Grant) × (a ≡ answered g))
   pub lookup-zero : (a : Reply Seen) → LookupGives a → (translationOf a .refusal ≡ 0) ↔ ((v : Seen) × (a ≡ answered v))
   pub check-zero : (bs : List ℕ) (s : Space) → (checkRequest bs s ≡ 0) ↔ (verdict (checkRows bs s) ≡ answered tt)
-  pub bind-pins : (count : ℕ) → PinsGiven BindGives (answerOf count)
+  pub bind-pins : (count ranges : ℕ) → PinsGiven BindGives (answerOf count ranges)
   pub lookup-pins : PinsGiven LookupGives translationOf

@@ -15,8 +15,7 @@ ghost use Rattle.model.specs.Rows.{verdict};
 ghost use Rattle.model.specs.Rules.{spaceRow, requestRows};
 ghost use Rattle.model.specs.Calls.{numberOf, verdictReply, answerReply, foundReply, spaceOf, bytes, checkRequest, bind, lookup};
 ghost use Rattle.waylluqen.specs.Words.{shownWords, translationOf, answerOf, left};
-ghost use Rattle.bind.specs.Bound.{numbersOf};
-ghost use Rattle.table.specs.Places.{lent};
+ghost use Rattle.bind.specs.Bound.{lentWords, numbersOf};
 
 // A space, as C hands it over.
 #[repr(C)]
@@ -27,8 +26,8 @@ pub struct SpaceWords {
     pub reserved_size: u64,
 }
 
-// What a look-up answers C. Refusal 0: it is answered, `shown` is 1 where the address shows an object, else 0, and
-// `bytes` is for how many bytes from there on that goes on in the same way.
+// What a look-up answers C. Refusal 0: it is answered, `shown` is 0 where the address shows nothing, 1 where it shows an
+// object, 2 where it is sparse, and `bytes` is for how many bytes from there on that goes on in the same way.
 #[repr(C)]
 pub struct Translation {
     pub refusal: u64,
@@ -39,13 +38,15 @@ pub struct Translation {
     pub bytes: u64,
 }
 
-// What a map or unmap answers C. Refusal 0: granted. On a refusal there is no operation, and the count is the one that came in.
+// What a map or unmap answers C. Refusal 0: granted. `count` and `ranges` are the counts of the table and of the list afterwards. On a refusal
+// there is no operation, and the counts are those that came in.
 #[repr(C)]
 pub struct AnswerWords {
     pub refusal: u64,
     pub place: u64,
     pub operations: u64,
     pub count: u64,
+    pub ranges: u64,
 }
 
 // The space of four numbers.
@@ -94,7 +95,7 @@ pub extern "C" fn waylluqen_check_request(
     ensures { λ n. ⌜ n ≡ checkRequest (now («record» .entry)) (spaceOf start size «reserved_start» «reserved_size») ⌝ }
 {
     let s = space_of(start, size, reserved_start, reserved_size);
-    match record::decode(record) {
+    match record::decode(record, rules::SPARSE) {
         Decoded::Refuse(w) => rules::refusal_number(w),
         Decoded::Record(r) => verdict_number(space_and_request(s, r)),
     }
@@ -109,6 +110,14 @@ fn shown_words(shown: Shown, bytes: u64) -> Translation
             refusal: 0,
             place: 0,
             shown: 0,
+            object: 0,
+            offset: 0,
+            bytes: bytes,
+        },
+        Shown::Sparse => Translation {
+            refusal: 0,
+            place: 0,
+            shown: 2,
             object: 0,
             offset: 0,
             bytes: bytes,
@@ -144,16 +153,18 @@ fn found_words(f: Found) -> Translation
     }
 }
 
-// What a byte address shows in a table of `count` mappings, and for how many bytes, or the first of the refusals 1, 2, 4,
-// 5 and 17.
+// What a byte address shows in a table of `count` mappings, beside a list of sparse ranges, and for how many bytes, or the
+// first of the refusals 1, 2, 4, 5, 17 and 18.
 #[no_mangle]
 pub extern "C" fn waylluqen_lookup(
     space: SpaceWords,
+    ranges: &[u64],
+    range_count: u64,
     table: &[u64],
     count: u64,
     address: u64,
 ) -> Translation
-    ensures { λ r. ⌜ r ≡ translationOf (lookup (spaceOf (space .start) (space .size) (space .«reserved_start») (space .«reserved_size»)) (lent (now (table .entry)) count) address) ⌝ }
+    ensures { λ r. ⌜ r ≡ translationOf (lookup (spaceOf (space .start) (space .size) (space .«reserved_start») (space .«reserved_size»)) (lentWords (now (ranges .entry)) «range_count» (now (table .entry)) count) address) ⌝ }
 {
     let s = space_of(
         space.start,
@@ -161,12 +172,19 @@ pub extern "C" fn waylluqen_lookup(
         space.reserved_start,
         space.reserved_size,
     );
-    found_words(bind::lookup(s, table, count as usize, address))
+    found_words(bind::lookup(
+        s,
+        ranges,
+        range_count as usize,
+        table,
+        count as usize,
+        address,
+    ))
 }
 
-// An answer in words, on a table of `count` mappings.
-fn answer_words(a: Answer, count: u64) -> AnswerWords
-    ensures { λ r. ⌜ r ≡ answerOf count (answerReply a) ⌝ }
+// An answer in words, on a table of `count` mappings and a list of `ranges` ranges.
+fn answer_words(a: Answer, count: u64, ranges: u64) -> AnswerWords
+    ensures { λ r. ⌜ r ≡ answerOf count ranges (answerReply a) ⌝ }
 {
     match a {
         Answer::Refused(w) => AnswerWords {
@@ -174,27 +192,31 @@ fn answer_words(a: Answer, count: u64) -> AnswerWords
             place: rules::refusal_place(w) as u64,
             operations: 0,
             count: count,
+            ranges: ranges,
         },
         Answer::Granted(g) => AnswerWords {
             refusal: 0,
             place: 0,
             operations: g.operations as u64,
             count: g.count as u64,
+            ranges: g.ranges as u64,
         },
     }
 }
 
 // Maps or unmaps a range in a table of `count` mappings, by the request's numbers: the first of the refusals 13, 1 to 5, 17,
-// 6 to 11, and then no word changes; or a grant.
+// 18, 6 to 11, and then no word changes; or a grant.
 #[no_mangle]
 pub extern "C" fn waylluqen_bind(
     space: SpaceWords,
+    ranges: &[u64],
+    range_count: u64,
     table: &mut [u64],
     count: u64,
     operations: &mut [u64],
     request: Numbers,
 ) -> AnswerWords
-    ensures { λ a. ⌜ left count (bind (spaceOf (space .start) (space .size) (space .«reserved_start») (space .«reserved_size»)) (lent (now (table .entry)) count) (now (operations .entry)) (numbersOf request)) ≡ record { answer = a; table = now (table .exit); operations = now (operations .exit) } ⌝ }
+    ensures { λ a. ⌜ left count «range_count» (bind (spaceOf (space .start) (space .size) (space .«reserved_start») (space .«reserved_size»)) (lentWords (now (ranges .entry)) «range_count» (now (table .entry)) count) (now (operations .entry)) (numbersOf request)) ≡ record { answer = a; table = now (table .exit); ranges = now (ranges .entry); operations = now (operations .exit) } ⌝ }
 {
     let s = space_of(
         space.start,
@@ -202,22 +224,31 @@ pub extern "C" fn waylluqen_bind(
         space.reserved_start,
         space.reserved_size,
     );
-    answer_words(
-        bind::bind(s, table, count as usize, operations, request),
-        count,
-    )
+    let answer = bind::bind(
+        s,
+        ranges,
+        range_count as usize,
+        table,
+        count as usize,
+        operations,
+        request,
+    );
+    answer_words(answer, count, range_count)
 }
 
-// The same by the bytes of a record: the refusals 12, 13, 14, 1 to 5, 17, 6 to 11.
+// The same by the bytes of a record, which may have the sparse flag and then changes the list alone: the refusals 12, 13,
+// 14, 1 to 5, 17, 18, 6 to 10, 19, 20, 11.
 #[no_mangle]
 pub extern "C" fn waylluqen_bind_record(
     space: SpaceWords,
+    ranges: &mut [u64],
+    range_count: u64,
     table: &mut [u64],
     count: u64,
     operations: &mut [u64],
     record: &[u8],
 ) -> AnswerWords
-    ensures { λ a. ⌜ left count (bind (spaceOf (space .start) (space .size) (space .«reserved_start») (space .«reserved_size»)) (lent (now (table .entry)) count) (now (operations .entry)) (bytes (now («record» .entry)))) ≡ record { answer = a; table = now (table .exit); operations = now (operations .exit) } ⌝ }
+    ensures { λ a. ⌜ left count «range_count» (bind (spaceOf (space .start) (space .size) (space .«reserved_start») (space .«reserved_size»)) (lentWords (now (ranges .entry)) «range_count» (now (table .entry)) count) (now (operations .entry)) (bytes (now («record» .entry)))) ≡ record { answer = a; table = now (table .exit); ranges = now (ranges .exit); operations = now (operations .exit) } ⌝ }
 {
     let s = space_of(
         space.start,
@@ -225,17 +256,23 @@ pub extern "C" fn waylluqen_bind_record(
         space.reserved_start,
         space.reserved_size,
     );
-    answer_words(
-        bind::bind_record(s, table, count as usize, operations, record),
-        count,
-    )
+    let answer = bind::bind_record(
+        s,
+        ranges,
+        range_count as usize,
+        table,
+        count as usize,
+        operations,
+        record,
+    );
+    answer_words(answer, count, range_count)
 }
 
 // The interface's number is in the name: header and ffi.rs need this very symbol, so that they link with no other edition of
 // the calls above. CONTRIBUTING.md says when it goes up.
 #[no_mangle]
-pub extern "C" fn waylluqen_interface_5() -> u32
-    ensures { λ n. ⌜ n ≡ 5 ⌝ }
+pub extern "C" fn waylluqen_interface_6() -> u32
+    ensures { λ n. ⌜ n ≡ 6 ⌝ }
 {
-    5
+    6
 }

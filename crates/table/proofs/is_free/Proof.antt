@@ -10,25 +10,24 @@ use Rattle.table.proofs.is_free.Tie as tie
 first-ending-behind-requires : tie.Need-first-ending-behind-requires
 first-ending-behind-requires c κs = search needs
 
-returns : tie.Need-returns
-returns c =
-    let found = c .before in
-    let start = found .before .before in
-    free-all (start .pre .0) (start .pre .1) (found .first-ending-behind .ensures) (c .if1 .taken)
-
 read-mapping-requires : tie.Need-read-mapping-requires
 read-mapping-requires c κs =
-    let found = c .before in
-    let start = found .before .before in
-    omega (arith, start .pre .0 .held, first-place (start .pre .0) (start .args .from), found .first-ending-behind .ensures)
+    let start = c .before .before .before in
+    omega (arith, start .pre .0 .held, c .if1 .taken)
 
-returns-2 : tie.Need-returns-2
-returns-2 c =
+returns : tie.Need-returns
+returns c =
     let read = c .before in
     let found = read .before .before in
     let start = found .before .before in
+    free-first (start .pre .0) (start .pre .1) _ (found .first-ending-behind .ensures) (read .before .if1 .taken) (read .read-mapping .ensures)
+
+returns-2 : tie.Need-returns-2
+returns-2 c =
+    let found = c .before in
+    let start = found .before .before in
     let p = first-place (start .pre .0) (start .args .from) in
-    free-first (start .pre .0) (start .pre .1) _ (found .first-ending-behind .ensures) (omega arith) (read .read-mapping .ensures)
+    free-all (start .pre .0) (start .pre .1) (found .first-ending-behind .ensures) (omega (arith, c .if1 .left, found .first-ending-behind .ensures))
 
 pub is-free-spec : {M : Type 1} → statement M
-is-free-spec = tie.close (tie.spec first-ending-behind-requires returns read-mapping-requires returns-2)
+is-free-spec = tie.close (tie.spec first-ending-behind-requires read-mapping-requires returns returns-2)
