@@ -4,7 +4,7 @@ use mathlib.Core.Path.{_≡_, refl, sym, ap, _∙_}
 use mathlib.Core.Logic.{_⊎_, inl, inr}
 use mathlib.Core.Bool.{Bool, true, false}
 use mathlib.Core.List.{List, [], _∷_, _++_, append-assoc, append-nil, flatMap}
-use Prim.Native.Nat.{ℕ, _+_, _-_}
+use Prim.Native.Nat.{ℕ, _+_}
 use native.Mathlib.Omega.{arith}
 use lib.Dec.{eqb}
 use lib.ListN.{length, drop, length-drop}
@@ -19,8 +19,8 @@ use Rattle.program.specs.Script.{State, Told, emptied, granted, shows, refusal,
 use Rattle.program.proofs.Records.{record-fits, prefix, where-some, run-fuel}
 use Rattle.script.specs.declared.Progress.{Progress}
 use Rattle.script.specs.declared.Stepped.{Stepped}
-use Rattle.script.specs.Steps.{stateOf, Steps}
-use Rattle.script.specs.Progress.{pending, toCome, isShort, waits, operationCount}
+use Rattle.script.specs.Steps.{Steps}
+use Rattle.script.specs.Progress.{pending, heldBy, toCome, isShort, waits, operationCount}
 use Rattle.script.proofs.Pending.{wrote}
 
 -- ── a record: its lines, and what the rest gives ──
@@ -75,7 +75,7 @@ module _ (st : State) (bs : List ℕ) where
       go : (u : Reply Grant) → isShort (toldBy granted u) ≡ true → Short Bind
       go (refused n q) k = never (sym k)
       go (answered n) k = never (sym k)
-  short-on (LookUp x) h = go (lookup (st .space) (st .table) x) h
+  short-on (LookUp x) h = go (lookup (st .space) (st .lent) x) h
     where
       go : (u : Reply Seen) → isShort (toldBy (shows x) u) ≡ true → Short (LookUp x)
       go (refused n q) k = never (sym k)
@@ -106,15 +106,13 @@ module _ (st : State) (bs : List ℕ) where
 abbrev pub progressOf : Progress → Stepped → Progress
 progressOf p r = record {
   space = r .space;
+  ranges = r .ranges;
   count = r .count;
   place = p .place + r .taken;
   next = 0;
   left = operationCount (responseTold (r .response));
   stopped = eqb (r .taken) 0;
 }
-
-abbrev pub heldBy : Progress → List ℕ → List ℕ → State
-heldBy p ws os = stateOf (p .space) ws (p .count) os
 
 -- what a step tells and leaves, having taken n bytes, and what the rest gives
 coming : ℕ → Step → ℕ → List ℕ → List ℕ
@@ -128,13 +126,13 @@ run-coming st p bs =
     run-step st p bs ∙ ap (λ (l : List ℕ). l ++ rest) (lines-split p st bs)
     ∙ append-assoc (lines p [] (step st bs .told)) (pending (step st bs .state .operations) 0 (operationCount (step st bs .told))) rest
 
-pub answered-on : (p : Progress) (ws os bs : List ℕ) (last : Bool) {r : Stepped} {ws' os' : List ℕ} → p .left ≡ 0 → p .stopped ≡ false
-    → Steps (step (heldBy p ws os) bs) (recordSize (recordAt bs)) r ws' os' → waits last (responseTold (r .response)) ≡ false
+pub answered-on : (p : Progress) (rs ws os bs : List ℕ) (last : Bool) {r : Stepped} {rs' ws' os' : List ℕ} → p .left ≡ 0 → p .stopped ≡ false
+    → Steps (step (heldBy p rs ws os) bs) (recordSize (recordAt bs)) r rs' ws' os' → waits last (responseTold (r .response)) ≡ false
     → (more : List ℕ) → (last ≡ true → more ≡ [])
-    → toCome p ws os (bs ++ more) ≡ lines (p .place) [] (responseTold (r .response)) ++ toCome (progressOf p r) ws' os' (drop (r .taken) bs ++ more)
+    → toCome p rs ws os (bs ++ more) ≡ lines (p .place) [] (responseTold (r .response)) ++ toCome (progressOf p r) rs' ws' os' (drop (r .taken) bs ++ more)
 unfolding toCome pending coming
-answered-on p ws os bs last {r} {ws'} {os'} none going did goes more ends =
-    let st : State = heldBy p ws os in
+answered-on p rs ws os bs last {r} {rs'} {ws'} {os'} none going did goes more ends =
+    let st : State = heldBy p rs ws os in
     let all : List ℕ = bs ++ more in
     let k = same st bs more last ends (rw (did .leaves) goes) in
     let n : recordSize (recordAt all) ≡ r .taken = ap recordSize (k .0) ∙ sym (did .takes) in

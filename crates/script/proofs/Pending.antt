@@ -1,12 +1,15 @@
 -- The operations that a granted request wrote are read as they were written, and their lines are to come.
 -- Assumes nothing.
 use mathlib.Core.Path.{_≡_, refl, ap, _∙_}
+use mathlib.Core.Logic.{_⊎_, ⊎-elim, ⊎-map}
 use mathlib.Core.Option.{some}
 use mathlib.Core.List.{List, [], _∷_, _++_, append-assoc, flatMap}
 use Prim.Native.Nat.{ℕ, suc, _*_}
 use native.Mathlib.Omega.{arith}
+use lib.Dec.{eqb, eqb→eq}
 use lib.ListN.{length, take, drop, length-append, length-drop}
 use lib.Seq.{take-at, drop-at}
+use Rattle.model.specs.declared.Request.{Request}
 use Rattle.model.specs.declared.Operation.{Operation}
 use Rattle.model.specs.declared.Grant.{Grant}
 use Rattle.program.specs.declared.ScriptRecord.{ScriptRecord}
@@ -14,13 +17,17 @@ use Rattle.program.specs.declared.ScriptRecord.the-variants.{SetSpace, Bind, Lo
 use Rattle.model.specs.Rows.{Reply, refused, answered}
 use Rattle.model.specs.Table.{mappings}
 use Rattle.model.specs.Layout.{operationWords, operationIn}
-use Rattle.model.specs.Calls.{bytes, requestOf, lookup}
+use Rattle.model.specs.Calls.{bytes, requestOf, operations, lookup}
 use Rattle.model.specs.Exactly.{Each}
 use Rattle.program.specs.Text.{operationLines}
 use Rattle.program.specs.Script.{State, granted, emptied, shows, toldBy, setSpace, bindIn, requestIn, stepOn, step, recordAt, operationsIn}
+use Rattle.model.proofs.Tests.{or-cases}
+use Rattle.model.proofs.Granted.{granted-rows, fronts}
+use Rattle.model.proofs.Sparse.{sparse-ranges}
 use Rattle.model.proofs.Operations.{operations-words}
 use Rattle.model.proofs.Replays.{replay-claim}
 use Rattle.model.proofs.OperationWords.{operation-length, Own, own-operations}
+use Rattle.program.proofs.Order.{runs-in-order}
 use Rattle.script.specs.Progress.{operationAt, pending, Known, Outstanding}
 
 -- the i-th, behind what was written before
@@ -50,18 +57,40 @@ pub record Wrote (st : State) (bs : List ℕ) (os : List ℕ) (g : Grant) : Type
   pub there : Outstanding os 0 (g .operations)
 
 module _ (st : State) (bs : List ℕ) (g : Grant) where
-  wrote-request : bindIn st bs .answer ≡ answered g → Wrote st bs (bindIn st bs .operations) g
-  wrote-request e =
-      let ops : List Operation = operationsIn st bs in
-      let r = replay-claim (st .space) (st .table) (st .operations) (bytes (requestIn bs)) g e in
-      let w = written-from [] 0 ops (drop (14 * length ops) (st .operations)) refl (own-operations (requestOf (requestIn bs)) (mappings (st .table))) in
+  abbrev request : Request
+  request = requestOf (requestIn bs)
+
+  -- a granted request has no flag, or the sparse one
+  flags-known : bindIn st bs .answer ≡ answered g → (request .flags ≡ 0) ⊎ (request .flags ≡ 256)
+  flags-known e =
+      let f = fronts (st .space) (st .lent) (length (st .operations)) (bytes (requestIn bs)) (granted-rows (st .space) (st .lent) (st .operations) (bytes (requestIn bs)) g e .1) in
+      ⊎-map (λ k. eqb→eq _ 0 k) (λ k. eqb→eq _ 256 k) (or-cases (eqb (request .flags) 0) (eqb (request .flags) 256) (f .form .flags .0))
+
+  wrote-plain : bindIn st bs .answer ≡ answered g → request .flags ≡ 0 → Wrote st bs (bindIn st bs .operations) g
+  wrote-plain e z =
+      let ops : List Operation = operations request (mappings (st .lent .table)) in
+      let r = replay-claim (st .space) (st .lent) (st .operations) (bytes (requestIn bs)) g (λ f. omega (arith, z, f)) e in
+      let w = written-from [] 0 ops (drop (14 * length ops) (st .operations)) refl (own-operations request (mappings (st .lent .table))) in
       record {
-        lines = rw (r .words .0, r .number) (w .0);
+        lines = rw (runs-in-order .listed st bs .plain z, r .words .0, r .number) (w .0);
         there = record {
           within = omega (arith, operations-words ops, r .number, r .words .1, simp (length-append, length-drop) at (ap length (r .words .0)));
           known = rw (r .words .0, r .number) (w .1);
         };
       }
+
+  -- with the flag there is none
+  wrote-flagged : bindIn st bs .answer ≡ answered g → request .flags ≡ 256 → Wrote st bs (bindIn st bs .operations) g
+  unfolding pending Known flatMap
+  wrote-flagged e z =
+      let k : g .operations ≡ 0 = sparse-ranges .flagged (st .space) (st .lent) (st .operations) (bytes (requestIn bs)) g e z .operations .1 in
+      record {
+        lines = rw (runs-in-order .listed st bs .flagged z, k);
+        there = record { within = omega (arith, k); known = rw k tt };
+      }
+
+  wrote-request : bindIn st bs .answer ≡ answered g → Wrote st bs (bindIn st bs .operations) g
+  wrote-request e = ⊎-elim (wrote-plain e) (wrote-flagged e) (flags-known e)
 
   wrote-on : (e : ScriptRecord) → stepOn e st bs .told ≡ granted g → Wrote st bs (stepOn e st bs .state .operations) g
   wrote-on (SetSpace s) h = absurd (never (setSpace s st) h)
@@ -74,7 +103,7 @@ module _ (st : State) (bs : List ℕ) (g : Grant) where
       go : (a : Reply Grant) → toldBy granted a ≡ granted g → a ≡ answered g
       go (refused n p) q = let z : _≡_ {A = ℕ} 0 1 = cc in absurd (omega arith)
       go (answered k) q = cc
-  wrote-on (LookUp x) h = absurd (never (lookup (st .space) (st .table) x) h)
+  wrote-on (LookUp x) h = absurd (never (lookup (st .space) (st .lent) x) h)
     where
       never : (a : Reply _) → toldBy (shows x) a ≡ granted g → ⊥
       never (refused n p) q = let z : _≡_ {A = ℕ} 0 1 = cc in omega arith

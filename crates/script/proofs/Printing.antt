@@ -4,14 +4,14 @@ use mathlib.Core.Path.{_≡_, refl}
 use mathlib.Core.Logic.{_⊎_, inl, inr}
 use mathlib.Core.Bool.{Bool}
 use mathlib.Core.List.{List, [], _∷_, _++_}
-use Prim.Native.Nat.{ℕ, _+_, _-_, _≤_}
+use Prim.Native.Nat.{ℕ, _≤_}
 use native.Mathlib.Omega.{arith}
 use lib.ListN.{length, length-append}
 use Rattle.model.specs.declared.Mapping.{Mapping}
 use Rattle.model.specs.declared.Operation.{Operation}
 use Rattle.model.specs.declared.Operation.the-variants.{Map, Remap, Unmap}
 use Rattle.model.specs.declared.Shown.{Shown}
-use Rattle.model.specs.declared.Shown.the-variants.{Nothing, Object}
+use Rattle.model.specs.declared.Shown.the-variants.{Nothing, Sparse, Object}
 use Rattle.model.specs.Rows.{choose}
 use Rattle.model.specs.Table.{wordsOf}
 use Rattle.program.specs.Text.{ascii, keepLine, restLines, operationLines, shownLine}
@@ -39,6 +39,7 @@ operation-some (Unmap keep m) = keep-some (ascii "unmap") keep m
 
 shown-some : (x : ℕ) (v : Shown) (n : ℕ) → 1 ≤ length (shownLine x v n)
 shown-some x Nothing n = behind-some (phraseOf (ascii "at") (x ∷ [])) (lineOf (ascii " none") (n ∷ [])) (line-some (ascii " none") (n ∷ []))
+shown-some x Sparse n = behind-some (phraseOf (ascii "at") (x ∷ [])) (lineOf (ascii " sparse") (n ∷ [])) (line-some (ascii " sparse") (n ∷ []))
 shown-some x (Object object offset) n = line-some (ascii "at") (x ∷ object ∷ offset ∷ n ∷ [])
 
 pub lines-some : (p : ℕ) (t : Told) → (t ≡ ended) ⊎ (1 ≤ length (lines p [] t))

@@ -16,7 +16,7 @@ use Rattle.model.specs.Rules.{spaceTests}
 use Rattle.model.specs.Calls.{bytes, bind, lookup, answerReply, foundReply}
 use Rattle.program.specs.Script.{recordAt, recordSize, State, emptied, granted, shows, refusal, toldBy, afterBind, requestIn, stepOn, step}
 use Rattle.program.proofs.Records.{record-fits}
-use Rattle.table.specs.Places.{lent}
+use Rattle.bind.specs.Bound.{lentWords}
 use Rattle.words.specs.Words.{stored, cleared}
 use Rattle.words.proofs.Stored.{cleared-stored}
 use Rattle.script.specs.declared.Stepped.{Stepped}
@@ -26,33 +26,37 @@ zeros : (ws : List ℕ) → stored ws 0 (replicate (length ws - 0) 0) ≡ replic
 unfolding cleared
 zeros ws = let e : length ws - 0 ≡ length ws = omega arith in cleared-stored ws 0 (omega arith) ∙ rw e
 
-module _ (s : Space) (ws : List ℕ) (count : ℕ) (os bs : List ℕ) where
+module _ (s : Space) (rs : List ℕ) (n : ℕ) (ws : List ℕ) (count : ℕ) (os bs : List ℕ) where
   abbrev st : State
-  st = stateOf s ws count os
+  st = stateOf s rs n ws count os
 
-  pub space-granted : (new : Space) {ws' : List ℕ} → all (spaceTests new) ≡ true → ws' ≡ stored ws 0 (replicate (length ws - 0) 0)
-      → stepOn (SetSpace new) st bs ≡ record { told = emptied (length ws / 4); state = stateOf new ws' 0 os }
+  pub space-granted : (new : Space) {rs' ws' : List ℕ} → all (spaceTests new) ≡ true → rs' ≡ stored rs 0 (replicate (length rs - 0) 0)
+      → ws' ≡ stored ws 0 (replicate (length ws - 0) 0)
+      → stepOn (SetSpace new) st bs ≡ record { told = emptied (length ws / 4); state = stateOf new rs' 0 ws' 0 os }
   unfolding decide
-  space-granted new h e = rw (h, e, zeros ws)
+  space-granted new h d e = rw (h, d, e, zeros rs, zeros ws)
 
   pub space-refused : (new : Space) → all (spaceTests new) ≡ false → stepOn (SetSpace new) st bs ≡ record { told = refusal 1 0; state = st }
   unfolding decide
   space-refused new h = rw h
 
-  pub bind-answered : {request : List ℕ} {a b : Answer} {ws' os' : List ℕ} → requestIn bs ≡ request
-      → bind s (lent ws count) os (bytes request) ≡ record { answer = answerReply a; table = ws'; operations = os' } → a ≡ b
-      → stepOn Bind st bs ≡ record { told = toldBy granted (answerReply b); state = afterBind st (record { answer = answerReply b; table = ws'; operations = os' }) }
+  pub bind-answered : {request : List ℕ} {a b : Answer} {rs' ws' os' : List ℕ} → requestIn bs ≡ request
+      → bind s (lentWords rs n ws count) os (bytes request) ≡ record { answer = answerReply a; table = ws'; ranges = rs'; operations = os' } → a ≡ b
+      → stepOn Bind st bs ≡ record {
+        told = toldBy granted (answerReply b);
+        state = afterBind st (record { answer = answerReply b; table = ws'; ranges = rs'; operations = os' });
+      }
   bind-answered e o h = rw (e, o, h)
 
-  pub lookup-answered : (x : ℕ) {f g : Found} → foundReply f ≡ lookup s (lent ws count) x → f ≡ g
+  pub lookup-answered : (x : ℕ) {f g : Found} → foundReply f ≡ lookup s (lentWords rs n ws count) x → f ≡ g
       → stepOn (LookUp x) st bs ≡ record { told = toldBy (shows x) (foundReply g); state = st }
   lookup-answered x l h = rw (← l, h)
 
   -- the record that was read
-  pub step-on : {e : ScriptRecord} {r : Stepped} {ws' os' : List ℕ} → recordAt bs ≡ e
-      → Steps (stepOn e st bs) (recordSize e) r ws' os' → Steps (step st bs) (recordSize (recordAt bs)) r ws' os'
+  pub step-on : {e : ScriptRecord} {r : Stepped} {rs' ws' os' : List ℕ} → recordAt bs ≡ e
+      → Steps (stepOn e st bs) (recordSize e) r rs' ws' os' → Steps (step st bs) (recordSize (recordAt bs)) r rs' ws' os'
   unfolding step
-  step-on {r = r} {ws' = ws'} {os' = os'} h k = subst (λ (e : ScriptRecord). Steps (stepOn e st bs) (recordSize e) r ws' os') (sym h) k
+  step-on {r = r} {rs' = rs'} {ws' = ws'} {os' = os'} h k = subst (λ (e : ScriptRecord). Steps (stepOn e st bs) (recordSize e) r rs' ws' os') (sym h) k
 
 -- a request's record is there
 pub request-there : (bs : List ℕ) → recordAt bs ≡ Bind → 42 ≤ length bs

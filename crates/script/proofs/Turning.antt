@@ -21,20 +21,20 @@ use Rattle.text.specs.Lines.{Put}
 use Rattle.script.specs.declared.Progress.{Progress}
 use Rattle.script.specs.declared.Stepped.{Stepped}
 use Rattle.script.specs.Steps.{Steps}
-use Rattle.script.specs.Progress.{operationAt, listedLines, pending, Known, Outstanding, toCome, isShort, waits, operationCount, Idle, Goes, Turns}
+use Rattle.script.specs.Progress.{operationAt, listedLines, pending, Known, Outstanding, heldBy, toCome, isShort, waits, operationCount, Idle, Goes, Turns}
 use Rattle.script.proofs.Pending.{wrote}
-use Rattle.script.proofs.Coming.{never, short, progressOf, heldBy, answered-on}
+use Rattle.script.proofs.Coming.{never, short, progressOf, answered-on}
 use Rattle.script.proofs.Printing.{operation-some, lines-some}
 
-module _ (ws os bs : List ℕ) (last : Bool) {out : List ℕ} {at : ℕ} where
-  pub goes-nowhere : (p : Progress) {ws' os' : List ℕ} → ws' ≡ ws → os' ≡ os → Outstanding os (p .next) (p .left)
-      → Goes p ws os bs last out at (record { progress = p; taken = 0; end = at }) ws' os' out
-  goes-nowhere p w o held = record {
+module _ (rs ws os bs : List ℕ) (last : Bool) {out : List ℕ} {at : ℕ} where
+  pub goes-nowhere : (p : Progress) {rs' ws' os' : List ℕ} → rs' ≡ rs → ws' ≡ ws → os' ≡ os → Outstanding os (p .next) (p .left)
+      → Goes p rs ws os bs last out at (record { progress = p; taken = 0; end = at }) rs' ws' os' out
+  goes-nowhere p r w o held = record {
     text = [];
     bytes = sym (stored-none out at);
     behind = omega arith;
-    goes-on = λ more ends. rw (w, o);
-    state = λ more. rw (w, o);
+    goes-on = λ more ends. rw (r, w, o);
+    state = λ more. rw (r, w, o);
     within = omega arith;
     place = omega arith;
     held = rw o held;
@@ -60,11 +60,11 @@ following os i (suc n) h k =
     }
 
 pub operation-turns : (p : Progress) (os : List ℕ) {out out' : List ℕ} {at end : ℕ} → 0 < p .left → Outstanding os (p .next) (p .left)
-    → Put out at (listedLines (operationAt os (p .next))) out' end 320 → (ws bs : List ℕ) (last : Bool) → Turns p ws os bs last out at
-    (record { progress = record { space = p .space; count = p .count; place = p .place; next = p .next + 1; left = p .left - 1; stopped = p .stopped }; taken = 0; end = end })
-    ws os out'
+    → Put out at (listedLines (operationAt os (p .next))) out' end 320 → (rs ws bs : List ℕ) (last : Bool) → Turns p rs ws os bs last out at
+    (record { progress = record { space = p .space; ranges = p .ranges; count = p .count; place = p .place; next = p .next + 1; left = p .left - 1; stopped = p .stopped }; taken = 0; end = end })
+    rs ws os out'
 unfolding toCome
-operation-turns p os {at = at} {end = end} some-left held put ws bs last =
+operation-turns p os {at = at} {end = end} some-left held put rs ws bs last =
     let f = following os (p .next) (p .left) some-left held in
     let text : List ℕ = listedLines (operationAt os (p .next)) in
     record {
@@ -103,21 +103,21 @@ short-size : {e : ScriptRecord} → (e ≡ Cut) ⊎ (e ≡ End) → recordSize e
 short-size (inl e) = ap recordSize e
 short-size (inr e) = ap recordSize e
 
-module _ (p : Progress) (ws os bs : List ℕ) (last : Bool) {out : List ℕ} {at : ℕ} {r : Stepped} {ws' os' : List ℕ}
-    (none : p .left ≡ 0) (did : Steps (step (heldBy p ws os) bs) (recordSize (recordAt bs)) r ws' os') where
+module _ (p : Progress) (rs ws os bs : List ℕ) (last : Bool) {out : List ℕ} {at : ℕ} {r : Stepped} {rs' ws' os' : List ℕ}
+    (none : p .left ≡ 0) (did : Steps (step (heldBy p rs ws os) bs) (recordSize (recordAt bs)) r rs' ws' os') where
   pub answered-turns : {out' : List ℕ} {end : ℕ} → p .stopped ≡ false → waits last (responseTold (r .response)) ≡ false
       → Put out at (lines (p .place) [] (responseTold (r .response))) out' end 128
-      → Turns p ws os bs last out at (record { progress = progressOf p r; taken = r .taken; end = end }) ws' os' out'
+      → Turns p rs ws os bs last out at (record { progress = progressOf p r; taken = r .taken; end = end }) rs' ws' os' out'
   answered-turns {end = end} going goes put = record {
     goes = record {
       text = lines (p .place) [] (responseTold (r .response));
       bytes = put .bytes;
       behind = put .behind;
-      goes-on = answered-on p ws os bs last none going did goes;
-      state = λ more. rw (did .takes) (leaves-step (heldBy p ws os) bs more ∙ ap (λ (d : Step). leaves (d .state) more) (did .leaves));
+      goes-on = answered-on p rs ws os bs last none going did goes;
+      state = λ more. rw (did .takes) (leaves-step (heldBy p rs ws os) bs more ∙ ap (λ (d : Step). leaves (d .state) more) (did .leaves));
       within = omega (arith, did .takes, record-fits bs);
       place = refl;
-      held = rw (did .leaves) at (outstanding (heldBy p ws os) bs);
+      held = rw (did .leaves) at (outstanding (heldBy p rs ws os) bs);
     };
     most = omega (arith, put .behind, put .within);
     idle = λ e. ⊎-elim (λ (t : responseTold (r .response) ≡ ended). silent t) (λ h. absurd (omega (arith, put .behind))) (lines-some (p .place) (responseTold (r .response)));
@@ -125,16 +125,17 @@ module _ (p : Progress) (ws os bs : List ℕ) (last : Bool) {out : List ℕ} {at
     where
       silent : responseTold (r .response) ≡ ended → Idle (progressOf p r) (drop (r .taken) bs) last
       silent t =
-          let k = short (heldBy p ws os) bs (rw (did .leaves, t)) in
+          let k = short (heldBy p rs ws os) bs (rw (did .leaves, t)) in
           record { none-left = ap operationCount t; because = inl (eq-eqb (r .taken) 0 (did .takes ∙ short-size (k .0))) }
 
   pub waiting-turns : Outstanding os (p .next) (p .left) → waits last (responseTold (r .response)) ≡ true
-      → Turns p ws os bs last out at (record { progress = p; taken = 0; end = at }) ws' os' out
+      → Turns p rs ws os bs last out at (record { progress = p; taken = 0; end = at }) rs' ws' os' out
   waiting-turns held h =
       let k = waiting last (responseTold (r .response)) h in
-      let s = short (heldBy p ws os) bs (rw (did .leaves) (k .1)) in
+      let s = short (heldBy p rs ws os) bs (rw (did .leaves) (k .1)) in
+      let same = sym (ap (λ (d : Step). d .state) (did .leaves)) ∙ s .1 in
       record {
-        goes = goes-nowhere ws os bs last p (ap (λ (st : State). st .table .words) (sym (ap (λ (d : Step). d .state) (did .leaves)) ∙ s .1)) (ap (λ (st : State). st .operations) (sym (ap (λ (d : Step). d .state) (did .leaves)) ∙ s .1)) held;
+        goes = goes-nowhere rs ws os bs last p (ap (λ (st : State). st .lent .ranges .words) same) (ap (λ (st : State). st .lent .table .words) same) (ap (λ (st : State). st .operations) same) held;
         most = omega arith;
         idle = λ e. record { none-left = none; because = inr (k .0, s .0) };
       }
@@ -143,7 +144,7 @@ module _ (p : Progress) (ws os bs : List ℕ) (last : Bool) {out : List ℕ} {at
       waiting true t e = never (sym e)
       waiting false t e = (refl, e)
 
-pub stopped-turns : (p : Progress) (ws os bs : List ℕ) (last : Bool) {out : List ℕ} {at : ℕ} → p .left ≡ 0 → p .stopped ≡ true → Outstanding os (p .next) (p .left)
-    → Turns p ws os bs last out at (record { progress = p; taken = 0; end = at }) ws os out
-stopped-turns p ws os bs last none stopped held =
-    record { goes = goes-nowhere ws os bs last p refl refl held; most = omega arith; idle = λ e. record { none-left = none; because = inl stopped } }
+pub stopped-turns : (p : Progress) (rs ws os bs : List ℕ) (last : Bool) {out : List ℕ} {at : ℕ} → p .left ≡ 0 → p .stopped ≡ true → Outstanding os (p .next) (p .left)
+    → Turns p rs ws os bs last out at (record { progress = p; taken = 0; end = at }) rs ws os out
+stopped-turns p rs ws os bs last none stopped held =
+    record { goes = goes-nowhere rs ws os bs last p refl refl refl held; most = omega arith; idle = λ e. record { none-left = none; because = inl stopped } }

@@ -12,7 +12,7 @@ use Rattle.model.specs.Rows.{choose}
 use Rattle.model.specs.Layout.{operationIn}
 use Rattle.program.specs.declared.ScriptRecord.the-variants.{Cut, End}
 use Rattle.program.specs.Text.{operationLines}
-use Rattle.program.specs.Script.{Told, emptied, granted, shows, refusal, otherMark, cut, ended, recordAt, run, leaves, start}
+use Rattle.program.specs.Script.{State, Told, emptied, granted, shows, refusal, otherMark, cut, ended, recordAt, run, leaves, start}
 use Rattle.words.specs.Words.{stored}
 use Rattle.script.specs.declared.Progress.{Progress}
 use Rattle.script.specs.declared.Turned.{Turned}
@@ -41,14 +41,17 @@ pub record Outstanding (os : List ℕ) (next left : ℕ) : Type 0 where
   pub within : 14 * (next + left) ≤ length os
   pub known : Known os next left
 
--- all that is still to be printed: the operations of the last grant, and what the unread bytes bs give; ws are the
--- table's words, os the operations'
-unfoldable pub toCome : Progress → List ℕ → List ℕ → List ℕ → List ℕ
-toCome p ws os bs = pending os (p .next) (p .left) ++ choose (p .stopped) [] (run (length bs) (stateOf (p .space) ws (p .count) os) (p .place) bs)
+-- what the program holds: progress, and the words of the list, the table and the operations
+abbrev pub heldBy : Progress → List ℕ → List ℕ → List ℕ → State
+heldBy p rs ws os = stateOf (p .space) rs (p .ranges) ws (p .count) os
+
+-- all that is still to be printed: the operations of the last grant, and what the unread bytes bs give
+unfoldable pub toCome : Progress → List ℕ → List ℕ → List ℕ → List ℕ → List ℕ
+toCome p rs ws os bs = pending os (p .next) (p .left) ++ choose (p .stopped) [] (run (length bs) (heldBy p rs ws os) (p .place) bs)
 
 -- before the first byte
 abbrev pub startProgress : Progress
-startProgress = record { space = start .space; count = 0; place = 0; next = 0; left = 0; stopped = false }
+startProgress = record { space = start .space; ranges = 0; count = 0; place = 0; next = 0; left = 0; stopped = false }
 
 -- the bytes end before the record does; then the program waits, if more can come. How many operations an answer hands
 -- over
@@ -87,28 +90,26 @@ pub record Idle (p : Progress) (bs : List ℕ) (last : Bool) : Type 0 where
 -- from p, with the unread bytes bs, some text was put at a place of the output, and what it leaves goes on with the
 -- rest, whatever bytes come behind; none come where bs are the last. What is held is what the records taken leave, also
 -- where the program has stopped
-pub record Goes (p : Progress) (ws os bs : List ℕ) (last : Bool) (out : List ℕ) (at : ℕ) (t : Turned) (ws' os' out' : List ℕ) : Type 0 where
+pub record Goes (p : Progress) (rs ws os bs : List ℕ) (last : Bool) (out : List ℕ) (at : ℕ) (t : Turned) (rs' ws' os' out' : List ℕ) : Type 0 where
   pub text : List ℕ
   pub bytes : out' ≡ stored out at text
   pub behind : t .end ≡ at + length text
-  pub goes-on : (more : List ℕ) → (last ≡ true → more ≡ []) → toCome p ws os (bs ++ more) ≡ text ++ toCome (t .progress) ws' os' (drop (t .taken) bs ++ more)
-  pub state : (more : List ℕ) → leaves (stateOf (p .space) ws (p .count) os) (take (t .taken) bs ++ more)
-      ≡ leaves (stateOf (t .progress .space) ws' (t .progress .count) os') more
+  pub goes-on : (more : List ℕ) → (last ≡ true → more ≡ []) → toCome p rs ws os (bs ++ more) ≡ text ++ toCome (t .progress) rs' ws' os' (drop (t .taken) bs ++ more)
+  pub state : (more : List ℕ) → leaves (heldBy p rs ws os) (take (t .taken) bs ++ more) ≡ leaves (heldBy (t .progress) rs' ws' os') more
   pub within : t .taken ≤ length bs
   pub place : t .progress .place ≡ p .place + t .taken
   pub held : Outstanding os' (t .progress .next) (t .progress .left)
 
 -- one turn: at most so many bytes, and none only where there is nothing to print
-pub record Turns (p : Progress) (ws os bs : List ℕ) (last : Bool) (out : List ℕ) (at : ℕ) (t : Turned) (ws' os' out' : List ℕ) : Type 0 where
-  pub goes : Goes p ws os bs last out at t ws' os' out'
+pub record Turns (p : Progress) (rs ws os bs : List ℕ) (last : Bool) (out : List ℕ) (at : ℕ) (t : Turned) (rs' ws' os' out' : List ℕ) : Type 0 where
+  pub goes : Goes p rs ws os bs last out at t rs' ws' os' out'
   pub most : t .end ≤ at + 320
   pub idle : t .end ≡ at → Idle (t .progress) (drop (t .taken) bs) last
 
 -- as many turns as there is room for, from the front of the output on
-pub record Advances (p : Progress) (ws os bs : List ℕ) (last : Bool) (out : List ℕ) (t : Turned) (ws' os' out' : List ℕ) : Type 0 where
-  pub goes : Goes p ws os bs last out 0 t ws' os' out'
-  -- the space, the count and the lent words, by the definition
-  pub words : stateOf (t .progress .space) ws' (t .progress .count) os'
-      ≡ leaves (stateOf (p .space) ws (p .count) os) (take (t .taken) bs)
+pub record Advances (p : Progress) (rs ws os bs : List ℕ) (last : Bool) (out : List ℕ) (t : Turned) (rs' ws' os' out' : List ℕ) : Type 0 where
+  pub goes : Goes p rs ws os bs last out 0 t rs' ws' os' out'
+  -- the space, the counts and the lent words, by the definition
+  pub words : heldBy (t .progress) rs' ws' os' ≡ leaves (heldBy p rs ws os) (take (t .taken) bs)
   pub room : t .end ≤ length out
   pub ended : (length out < t .end + 320) ⊎ Idle (t .progress) (drop (t .taken) bs) last

@@ -1,4 +1,5 @@
 // The script program on lent buffers: what stands at a place of the script, and what one record does.
+
 use model::Answer;
 use model::Found;
 use model::Listed;
@@ -20,9 +21,11 @@ ghost use Rattle.text.specs.Lines.{Put};
 ghost use Rattle.script.specs.Steps.{stateOf, Steps};
 ghost use Rattle.script.specs.Progress.{listedLines, Outstanding, startProgress, waits, operationCount, Ready, Turns, Advances};
 
-// What the program holds after a record, its answer, and how many bytes the record takes.
+// What the program holds after a record (the list's count is `ranges`, the table's `count`), its answer, and how many bytes
+// the record takes.
 pub struct Stepped {
     pub space: Space,
+    pub ranges: usize,
     pub count: usize,
     pub response: Response,
     pub taken: usize,
@@ -91,11 +94,12 @@ pub fn read_record(bytes: &[u8]) -> ScriptRecord
 }
 
 impl Stepped {
-    fn new(space: Space, count: usize, response: Response, taken: usize) -> Stepped
-        ensures { λ r. ⌜ r ≡ record { space = space; count = count; response = response; taken = taken } ⌝ }
+    fn new(space: Space, ranges: usize, count: usize, response: Response, taken: usize) -> Stepped
+        ensures { λ r. ⌜ r ≡ record { space = space; ranges = ranges; count = count; response = response; taken = taken } ⌝ }
     {
         Stepped {
             space,
+            ranges,
             count,
             response,
             taken,
@@ -103,62 +107,95 @@ impl Stepped {
     }
 }
 
-// `SP`: a granted one empties the table, a refused one changes nothing.
-fn set_space(s: Space, table: &mut [u64], count: usize, new: Space) -> Stepped
-    ensures { λ r. ⌜ ((os bs : List ℕ) → Steps (stepOn (SetSpace new) (stateOf s (now (table .entry)) count os) bs) 34 r (now (table .exit)) os) ⌝ }
+// `SP`: a granted one empties the list and the table, a refused one changes nothing.
+fn set_space(
+    s: Space,
+    ranges: &mut [u64],
+    range_count: usize,
+    table: &mut [u64],
+    count: usize,
+    new: Space,
+) -> Stepped
+    ensures { λ r. ⌜ ((os bs : List ℕ) → Steps (stepOn (SetSpace new) (stateOf s (now (ranges .entry)) «range_count» (now (table .entry)) count os) bs) 34 r (now (ranges .exit)) (now (table .exit)) os) ⌝ }
 {
     if !rules::space_keeps_rules(new) {
-        return Stepped::new(s, count, Response::Refused(Refusal::BadSpace), SPACE_RECORD);
+        let refused = Response::Refused(Refusal::BadSpace);
+        return Stepped::new(s, range_count, count, refused, SPACE_RECORD);
     }
+    let m = ranges.len();
+    words::clear(ranges, 0, m);
     let n = table.len();
     words::clear(table, 0, n);
-    Stepped::new(new, 0, Response::Emptied(n / 4), SPACE_RECORD)
+    Stepped::new(new, 0, 0, Response::Emptied(n / 4), SPACE_RECORD)
 }
 
 // `RQ`: the request's 40 bytes go to the public call.
 fn bind_request(
     s: Space,
+    ranges: &mut [u64],
+    range_count: usize,
     table: &mut [u64],
     count: usize,
     operations: &mut [u64],
     request: &[u8],
 ) -> Stepped
-    ensures { λ r. ⌜ ((bs : List ℕ) → requestIn bs ≡ now (request .entry) → Steps (stepOn Bind (stateOf s (now (table .entry)) count (now (operations .entry))) bs) 42 r (now (table .exit)) (now (operations .exit))) ⌝ }
+    ensures { λ r. ⌜ ((bs : List ℕ) → requestIn bs ≡ now (request .entry) → Steps (stepOn Bind (stateOf s (now (ranges .entry)) «range_count» (now (table .entry)) count (now (operations .entry))) bs) 42 r (now (ranges .exit)) (now (table .exit)) (now (operations .exit))) ⌝ }
 {
-    match bind::bind_record(s, table, count, operations, request) {
-        Answer::Granted(g) => Stepped::new(s, g.count, Response::Granted(g), REQUEST_RECORD),
-        Answer::Refused(w) => Stepped::new(s, count, Response::Refused(w), REQUEST_RECORD),
+    match bind::bind_record(s, ranges, range_count, table, count, operations, request) {
+        Answer::Granted(g) => {
+            Stepped::new(s, g.ranges, g.count, Response::Granted(g), REQUEST_RECORD)
+        }
+        Answer::Refused(w) => {
+            Stepped::new(s, range_count, count, Response::Refused(w), REQUEST_RECORD)
+        }
     }
 }
 
 // `LK`.
-fn look_up(s: Space, table: &[u64], count: usize, x: u64) -> Stepped
-    ensures { λ r. ⌜ ((os bs : List ℕ) → Steps (stepOn (LookUp x) (stateOf s (now (table .entry)) count os) bs) 10 r (now (table .entry)) os) ⌝ }
+fn look_up(
+    s: Space,
+    ranges: &[u64],
+    range_count: usize,
+    table: &[u64],
+    count: usize,
+    x: u64,
+) -> Stepped
+    ensures { λ r. ⌜ ((os bs : List ℕ) → Steps (stepOn (LookUp x) (stateOf s (now (ranges .entry)) «range_count» (now (table .entry)) count os) bs) 10 r (now (ranges .entry)) (now (table .entry)) os) ⌝ }
 {
-    match bind::lookup(s, table, count, x) {
-        Found::Shows(seen) => Stepped::new(s, count, Response::Shows(x, seen), ADDRESS_RECORD),
-        Found::Refused(w) => Stepped::new(s, count, Response::Refused(w), ADDRESS_RECORD),
+    match bind::lookup(s, ranges, range_count, table, count, x) {
+        Found::Shows(seen) => {
+            let shows = Response::Shows(x, seen);
+            Stepped::new(s, range_count, count, shows, ADDRESS_RECORD)
+        }
+        Found::Refused(w) => {
+            Stepped::new(s, range_count, count, Response::Refused(w), ADDRESS_RECORD)
+        }
     }
 }
 
-// One step of the program: the record at the front of the bytes, on the space, the table and the operation words that the
-// program holds. Where the bytes end before the record does, the answer is that it is cut, and nothing has changed.
+// One step of the program: the record at the front of the bytes, on the space, the list, the table and the operation words
+// that the program holds. Where the bytes end before the record does, the answer is that it is cut, and nothing has changed.
 pub fn step(
     s: Space,
+    ranges: &mut [u64],
+    range_count: usize,
     table: &mut [u64],
     count: usize,
     operations: &mut [u64],
     bytes: &[u8],
 ) -> Stepped
-    ensures { λ r. ⌜ Steps (step (stateOf s (now (table .entry)) count (now (operations .entry))) (now (bytes .entry))) (recordSize (recordAt (now (bytes .entry)))) r (now (table .exit)) (now (operations .exit)) ⌝ }
+    ensures { λ r. ⌜ Steps (step (stateOf s (now (ranges .entry)) «range_count» (now (table .entry)) count (now (operations .entry))) (now (bytes .entry))) (recordSize (recordAt (now (bytes .entry)))) r (now (ranges .exit)) (now (table .exit)) (now (operations .exit)) ⌝ }
 {
     match read_record(bytes) {
-        ScriptRecord::SetSpace(new) => set_space(s, table, count, new),
-        ScriptRecord::Bind => bind_request(s, table, count, operations, &bytes[2..REQUEST_RECORD]),
-        ScriptRecord::LookUp(x) => look_up(s, table, count, x),
-        ScriptRecord::OtherMark => Stepped::new(s, count, Response::OtherMark, 0),
-        ScriptRecord::Cut => Stepped::new(s, count, Response::Cut, 0),
-        ScriptRecord::End => Stepped::new(s, count, Response::End, 0),
+        ScriptRecord::SetSpace(new) => set_space(s, ranges, range_count, table, count, new),
+        ScriptRecord::Bind => {
+            let request = &bytes[2..REQUEST_RECORD];
+            bind_request(s, ranges, range_count, table, count, operations, request)
+        }
+        ScriptRecord::LookUp(x) => look_up(s, ranges, range_count, table, count, x),
+        ScriptRecord::OtherMark => Stepped::new(s, range_count, count, Response::OtherMark, 0),
+        ScriptRecord::Cut => Stepped::new(s, range_count, count, Response::Cut, 0),
+        ScriptRecord::End => Stepped::new(s, range_count, count, Response::End, 0),
     }
 }
 
@@ -166,6 +203,7 @@ pub fn step(
 // operations of the last grant that are still to be written, `left` of them from the one numbered `next` on.
 pub struct Progress {
     pub space: Space,
+    pub ranges: usize,
     pub count: usize,
     pub place: u64,
     pub next: usize,
@@ -194,6 +232,7 @@ pub fn start() -> Progress
     };
     Progress {
         space,
+        ranges: 0,
         count: 0,
         place: 0,
         next: 0,
@@ -216,7 +255,7 @@ fn put_listed(out: &mut [u8], at: usize, words: &[u64]) -> usize
 // The lines of the next operation.
 fn write_operation(p: Progress, operations: &[u64], out: &mut [u8], at: usize) -> Turned
     requires { ⌜ (0 < p .left) × Outstanding (now operations) (p .next) (p .left) × (at + 320 ≤ length (now out)) ⌝ }
-    ensures { λ t. ⌜ ((ws bs : List ℕ) (last : Bool) → Turns p ws (now (operations .entry)) bs last (now (out .entry)) at t ws (now (operations .entry)) (now (out .exit))) ⌝ }
+    ensures { λ t. ⌜ ((rs ws bs : List ℕ) (last : Bool) → Turns p rs ws (now (operations .entry)) bs last (now (out .entry)) at t rs ws (now (operations .entry)) (now (out .exit))) ⌝ }
 {
     let next = p.next;
     let from = OPERATION_WORDS * next;
@@ -225,6 +264,7 @@ fn write_operation(p: Progress, operations: &[u64], out: &mut [u8], at: usize) -
     let space = p.space;
     let progress = Progress {
         space,
+        ranges: p.ranges,
         count: p.count,
         place: p.place,
         next: next + 1,
@@ -274,6 +314,7 @@ fn operation_count(response: Response) -> usize
 // The next record, if its bytes are there or no more come: the step, and the line of its answer.
 fn answer(
     p: Progress,
+    ranges: &mut [u64],
     table: &mut [u64],
     operations: &mut [u64],
     bytes: &[u8],
@@ -282,10 +323,10 @@ fn answer(
     at: usize,
 ) -> Turned
     requires { ⌜ Ready p (now operations) (now bytes) × (p .left ≡ 0) × (p .stopped ≡ false) × (at + 320 ≤ length (now out)) ⌝ }
-    ensures { λ t. ⌜ Turns p (now (table .entry)) (now (operations .entry)) (now (bytes .entry)) last (now (out .entry)) at t (now (table .exit)) (now (operations .exit)) (now (out .exit)) ⌝ }
+    ensures { λ t. ⌜ Turns p (now (ranges .entry)) (now (table .entry)) (now (operations .entry)) (now (bytes .entry)) last (now (out .entry)) at t (now (ranges .exit)) (now (table .exit)) (now (operations .exit)) (now (out .exit)) ⌝ }
 {
     let space = p.space;
-    let s = step(space, table, p.count, operations, bytes);
+    let s = step(space, ranges, p.ranges, table, p.count, operations, bytes);
     let response = s.response;
     if waits(last, response) {
         return Turned {
@@ -299,6 +340,7 @@ fn answer(
     let taken = s.taken;
     let progress = Progress {
         space: held,
+        ranges: s.ranges,
         count: s.count,
         place: p.place + taken as u64,
         next: 0,
@@ -315,6 +357,7 @@ fn answer(
 // The next operation, or else the next record.
 fn turn(
     p: Progress,
+    ranges: &mut [u64],
     table: &mut [u64],
     operations: &mut [u64],
     bytes: &[u8],
@@ -323,7 +366,7 @@ fn turn(
     at: usize,
 ) -> Turned
     requires { ⌜ Ready p (now operations) (now bytes) × (at + 320 ≤ length (now out)) ⌝ }
-    ensures { λ t. ⌜ Turns p (now (table .entry)) (now (operations .entry)) (now (bytes .entry)) last (now (out .entry)) at t (now (table .exit)) (now (operations .exit)) (now (out .exit)) ⌝ }
+    ensures { λ t. ⌜ Turns p (now (ranges .entry)) (now (table .entry)) (now (operations .entry)) (now (bytes .entry)) last (now (out .entry)) at t (now (ranges .exit)) (now (table .exit)) (now (operations .exit)) (now (out .exit)) ⌝ }
 {
     if 0 < p.left {
         return write_operation(p, operations, out, at);
@@ -336,12 +379,13 @@ fn turn(
             end: at,
         };
     }
-    answer(p, table, operations, bytes, last, out, at)
+    answer(p, ranges, table, operations, bytes, last, out, at)
 }
 
 // Turns, until the output is nearly full or there is nothing to print from the bytes at hand.
 pub fn advance(
     p: Progress,
+    ranges: &mut [u64],
     table: &mut [u64],
     operations: &mut [u64],
     bytes: &[u8],
@@ -349,13 +393,14 @@ pub fn advance(
     out: &mut [u8],
 ) -> Turned
     requires { ⌜ Ready p (now operations) (now bytes) ⌝ }
-    ensures { λ t. ⌜ Advances p (now (table .entry)) (now (operations .entry)) (now (bytes .entry)) last (now (out .entry)) t (now (table .exit)) (now (operations .exit)) (now (out .exit)) ⌝ }
+    ensures { λ t. ⌜ Advances p (now (ranges .entry)) (now (table .entry)) (now (operations .entry)) (now (bytes .entry)) last (now (out .entry)) t (now (ranges .exit)) (now (table .exit)) (now (operations .exit)) (now (out .exit)) ⌝ }
 {
     let mut progress = p;
     let mut from: usize = 0;
     let mut end: usize = 0;
     while end + text::MOST_OPERATION <= out.len() {
-        let t = turn(progress, table, operations, &bytes[from..], last, out, end);
+        let rest = &bytes[from..];
+        let t = turn(progress, ranges, table, operations, rest, last, out, end);
         let next = t.progress;
         progress = next;
         from += t.taken;

@@ -34,9 +34,9 @@ goes WriteFailed = false
 goes TooLong = false
 
 -- a round that prints nothing, since the places are at their end
-pub too-long : (r : Run) (ws os input out : List ℕ) → Held r os (length input) → 2 ^ 63 ≤ r .progress .place
-    → Carries r ws os input (standing r 0 0 TooLong) ws os input out
-too-long r ws os input out h e = record {
+pub too-long : (r : Run) (rs ws os input out : List ℕ) → Held r os (length input) → 2 ^ 63 ≤ r .progress .place
+    → Carries r rs ws os input (standing r 0 0 TooLong) rs ws os input out
+too-long r rs ws os input out h e = record {
   ends = (refl, e);
   moves = λ g. never (sym (ap goes g));
   inside = omega arith;
@@ -48,7 +48,7 @@ module _ (r : Run) {os : List ℕ} (input : List ℕ) (h : Held r os (length inp
   unread-length : length (unread r input) ≡ r .to - r .from
   unread-length = length-part input (r .from) (r .to - r .from) (omega (arith, h .order, h .inside))
 
-  module _ {ws out : List ℕ} {t : Turned} {ws' os' out' : List ℕ} (a : Advances (r .progress) ws os (unread r input) (r .last) out t ws' os' out') where
+  module _ {rs ws out : List ℕ} {t : Turned} {rs' ws' os' out' : List ℕ} (a : Advances (r .progress) rs ws os (unread r input) (r .last) out t rs' ws' os' out') where
     pub taken-within : r .from + t .taken ≤ r .to
     taken-within = omega (arith, h .order, a .goes .within, unread-length)
 
@@ -74,7 +74,7 @@ module _ (r : Run) {os : List ℕ} (input : List ℕ) (h : Held r os (length inp
     end-inside = omega (arith, a .room, out-length)
 
     carries-on : (written : ℕ) (e : End) → Ends e (standing (behind r t) (t .end) written e) input
-        → (e ≡ Going → length out < t .end + 320) → Carries r ws os input (standing (behind r t) (t .end) written e) ws' os' input out'
+        → (e ≡ Going → length out < t .end + 320) → Carries r rs ws os input (standing (behind r t) (t .end) written e) rs' ws' os' input out'
     carries-on written e ends moves = record {
       ends = ends;
       moves = λ g. full (omega (arith, moves g, out-length));
@@ -83,11 +83,11 @@ module _ (r : Run) {os : List ℕ} (input : List ℕ) (h : Held r os (length inp
       stream = λ {bs} {text} s. ([], rw (append-nil bs, ← rest, text-at) (printed s (a .goes)));
     }
 
-    pub carries-failed : (written : ℕ) → written < t .end → Carries r ws os input (standing (behind r t) (t .end) written WriteFailed) ws' os' input out'
+    pub carries-failed : (written : ℕ) → written < t .end → Carries r rs ws os input (standing (behind r t) (t .end) written WriteFailed) rs' ws' os' input out'
     carries-failed written e = carries-on written WriteFailed e (λ g. never (sym (ap goes g)))
 
     pub carries-full : (written : ℕ) → written ≡ t .end → length out < t .end + 320
-        → Carries r ws os input (standing (behind r t) (t .end) written Going) ws' os' input out'
+        → Carries r rs ws os input (standing (behind r t) (t .end) written Going) rs' ws' os' input out'
     carries-full written e room = carries-on written Going e (λ _. room)
 
     -- ── where there was room for more ──
@@ -102,7 +102,7 @@ module _ (r : Run) {os : List ℕ} (input : List ℕ) (h : Held r os (length inp
           go (inr i) = i
 
       pub carries-done : (written : ℕ) → written ≡ t .end → t .progress .stopped ≡ true
-          → Carries r ws os input (standing (behind r t) (t .end) written Done) ws' os' input out'
+          → Carries r rs ws os input (standing (behind r t) (t .end) written Done) rs' ws' os' input out'
       carries-done written e stopped = carries-on written Done (e, stopped, idle .none-left) (λ g. never (sym (ap goes g)))
 
       -- where the program has not stopped, it waits for more bytes
@@ -167,16 +167,16 @@ module _ (r : Run) {os : List ℕ} (input : List ℕ) (h : Held r os (length inp
             by Failure e = never (sym (ap goes (sym (f .brought .2 ∙ ap endOf e) ∙ going)))
 
         pub carries-refilled : (written : ℕ) → written ≡ t .end → {q : Run} {input' : List ℕ}
-            → Refilled (standing (behind r t) (t .end) written Going) input q input' → Carries r ws os input q ws' os' input' out'
+            → Refilled (standing (behind r t) (t .end) written Going) input q input' → Carries r rs ws os input q rs' ws' os' input' out'
         unfolding Waits
         carries-refilled written e {q} {input'} f = record {
           ends = refilled-ends written e f;
           moves = refilled-moves written f;
           inside = rw (f .same .1) end-inside;
           held = record { order = f .order; inside = f .inside; there = rw (f .same .0) (a .goes .held) };
-          stream = λ {bs} {text} s. (f .more, rw (f .same .0, f .same .1, f .behind, ← rest, text-at) (ends (q .last) (came (subst (λ (l : Bool). Stream bs l (drop (t .taken) (unread r input)) (text ++ a .goes .text) (t .progress) ws' os') (waiting .0) (printed s (a .goes))) (f .more))));
+          stream = λ {bs} {text} s. (f .more, rw (f .same .0, f .same .1, f .behind, ← rest, text-at) (ends (q .last) (came (subst (λ (l : Bool). Stream bs l (drop (t .taken) (unread r input)) (text ++ a .goes .text) (t .progress) rs' ws' os') (waiting .0) (printed s (a .goes))) (f .more))));
         }
           where
-            ends : {bs unread text : List ℕ} {p : Progress} {ws os : List ℕ} (last : Bool) → Stream bs false unread text p ws os → Stream bs last unread text p ws os
+            ends : {bs unread text : List ℕ} {p : Progress} {rs ws os : List ℕ} (last : Bool) → Stream bs false unread text p rs ws os → Stream bs last unread text p rs ws os
             ends true s = ended s
             ends false s = s

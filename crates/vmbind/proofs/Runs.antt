@@ -20,24 +20,24 @@ use Rattle.vmbind.specs.declared.Run.{Run}
 use Rattle.vmbind.proofs.End.{the-type}
 use Rattle.vmbind.specs.Buffers.{unread, Held, Ends, Carries, Rounds, no-round, next, Over, Ran}
 
-pub one-more : {n m : ℕ} {text : List ℕ} {run r : Run} {ws os input ws' os' input' out' : List ℕ} → Rounds n text run ws os input
-    → run .end ≡ Going → Carries run ws os input r ws' os' input' out' → m ≡ n + 1 → Rounds m (text ++ take (r .printed) out') r ws' os' input'
+pub one-more : {n m : ℕ} {text : List ℕ} {run r : Run} {rs ws os input rs' ws' os' input' out' : List ℕ} → Rounds n text run rs ws os input
+    → run .end ≡ Going → Carries run rs ws os input r rs' ws' os' input' out' → m ≡ n + 1 → Rounds m (text ++ take (r .printed) out') r rs' ws' os' input'
 one-more s g c e = rw e (next s g c)
 
-pub held-after : {n : ℕ} {text : List ℕ} {r : Run} {ws os input : List ℕ} → Rounds n text r ws os input → Held r os (length input)
+pub held-after : {n : ℕ} {text : List ℕ} {r : Run} {rs ws os input : List ℕ} → Rounds n text r rs ws os input → Held r os (length input)
 held-after no-round = record { order = omega arith; inside = omega arith; there = none-outstanding }
 held-after (next s g c) = c .held
 
 -- the bytes that have come
-stream-after : {n : ℕ} {text : List ℕ} {r : Run} {ws os input : List ℕ} → Rounds n text r ws os input
-    → (bytes : List ℕ) × Stream bytes (r .last) (unread r input) text (r .progress) ws os
+stream-after : {n : ℕ} {text : List ℕ} {r : Run} {rs ws os input : List ℕ} → Rounds n text r rs ws os input
+    → (bytes : List ℕ) × Stream bytes (r .last) (unread r input) text (r .progress) rs ws os
 stream-after no-round = ([], begun)
 stream-after (next s g c) =
     let before = stream-after s in
     let after = c .stream (before .1) in
     (before .0 ++ after .0, after .1)
 
-pub ran : {n : ℕ} {text : List ℕ} {r : Run} {ws os input : List ℕ} (e : End) → Rounds n text r ws os input → Over e r input n → Ran e ws os input
+pub ran : {n : ℕ} {text : List ℕ} {r : Run} {rs ws os input : List ℕ} (e : End) → Rounds n text r rs ws os input → Over e r input n → Ran e rs ws os input
 ran {n} {text} {r} {input = input} e s over =
     let after = stream-after s in
     record {
@@ -54,8 +54,8 @@ ran {n} {text} {r} {input = input} e s over =
     }
 
 -- a round that does not go on ends the run
-pub ran-ended : {n : ℕ} {text : List ℕ} {r : Run} {ws os input : List ℕ} → Rounds n text r ws os input
-    → OneOf (1 ∷ 2 ∷ 3 ∷ 4 ∷ []) (tagOf the-type (r .end)) → Ends (r .end) r input → Ran (r .end) ws os input
+pub ran-ended : {n : ℕ} {text : List ℕ} {r : Run} {rs ws os input : List ℕ} → Rounds n text r rs ws os input
+    → OneOf (1 ∷ 2 ∷ 3 ∷ 4 ∷ []) (tagOf the-type (r .end)) → Ends (r .end) r input → Ran (r .end) rs ws os input
 ran-ended {n} {r = r} {input = input} s k ends = ran (r .end) s (by (r .end) k ends)
   where
     by : (e : End) → OneOf (1 ∷ 2 ∷ 3 ∷ 4 ∷ []) (tagOf the-type e) → Ends e r input → Over e r input n

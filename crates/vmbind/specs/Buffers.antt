@@ -19,9 +19,10 @@ use Rattle.vmbind.specs.declared.Wrote.{Wrote}
 use Rattle.vmbind.specs.declared.Got.{Got}
 use Rattle.vmbind.specs.declared.Got.the-variants.{Bytes, Nothing, Failure}
 
--- document 02: the buffers, two of words and two of bytes, are together below 64 KiB
-abbrev pub Below64KiB : List ℕ → List ℕ → List ℕ → List ℕ → Type 0
-Below64KiB table operations input output = 8 * length table + 8 * length operations + length input + length output < 65536
+-- document 02: the buffers, three of words and two of bytes, are together below 64 KiB
+abbrev pub Below64KiB : List ℕ → List ℕ → List ℕ → List ℕ → List ℕ → Type 0
+Below64KiB ranges table operations input output =
+    8 * length ranges + 8 * length table + 8 * length operations + length input + length output < 65536
 
 -- ── the unread bytes ──
 
@@ -136,25 +137,25 @@ pub data Moves (run r : Run) (out : List ℕ) : Type 0 where
   closed : run .last ≡ false → r .last ≡ true → Moves run r out
 
 -- a round goes on with a stream: some bytes more have come, and the text printed stands at the front of the output
-pub record Carries (run : Run) (ws os input : List ℕ) (r : Run) (ws' os' input' out' : List ℕ) : Type 0 where
+pub record Carries (run : Run) (rs ws os input : List ℕ) (r : Run) (rs' ws' os' input' out' : List ℕ) : Type 0 where
   pub ends : Ends (r .end) r input'
   pub moves : r .end ≡ Going → Moves run r out'
   pub inside : r .printed ≤ length out'
   pub held : Held r os' (length input')
-  pub stream : {bs text : List ℕ} → Stream bs (run .last) (unread run input) text (run .progress) ws os
+  pub stream : {bs text : List ℕ} → Stream bs (run .last) (unread run input) text (run .progress) rs ws os
       → (more : List ℕ)
-      × Stream (bs ++ more) (r .last) (unread r input') (text ++ take (r .printed) out') (r .progress) ws' os'
+      × Stream (bs ++ more) (r .last) (unread r input') (text ++ take (r .printed) out') (r .progress) rs' ws' os'
 
 -- before the first round
 abbrev pub startRun : Run
 startRun = record { progress = startProgress; from = 0; to = 0; last = false; printed = 0; written = 0; end = Going }
 
 -- so many rounds from the start on, each but the last of which goes on, and the text that they handed over
-pub data Rounds : ℕ → List ℕ → Run → List ℕ → List ℕ → List ℕ → Type 0 where
-  no-round : {input : List ℕ} → Rounds 0 [] startRun (start .table .words) (start .operations) input
-  next : {n : ℕ} {text : List ℕ} {run r : Run} {ws os input ws' os' input' out' : List ℕ}
-      → Rounds n text run ws os input → run .end ≡ Going → Carries run ws os input r ws' os' input' out'
-      → Rounds (n + 1) (text ++ take (r .printed) out') r ws' os' input'
+pub data Rounds : ℕ → List ℕ → Run → List ℕ → List ℕ → List ℕ → List ℕ → Type 0 where
+  no-round : {input : List ℕ} → Rounds 0 [] startRun (start .lent .ranges .words) (start .lent .table .words) (start .operations) input
+  next : {n : ℕ} {text : List ℕ} {run r : Run} {rs ws os input rs' ws' os' input' out' : List ℕ}
+      → Rounds n text run rs ws os input → run .end ≡ Going → Carries run rs ws os input r rs' ws' os' input' out'
+      → Rounds (n + 1) (text ++ take (r .printed) out') r rs' ws' os' input'
 
 -- why a run is over after n rounds: as its last round ended, or because no more are counted
 abbrev pub Over : End → Run → List ℕ → ℕ → Type 0
@@ -166,14 +167,14 @@ Over TooLong r input n = Ends TooLong r input ⊎ (2 ^ 64 ≤ n + 1)
 
 -- a whole run: the text that its rounds handed over, why it is over, and the bytes that have come; where it is done,
 -- the text is the script's output
-pub record Ran (e : End) (ws os input : List ℕ) : Type 0 where
+pub record Ran (e : End) (rs ws os input : List ℕ) : Type 0 where
   pub run : Run
   pub text : List ℕ
   pub count : ℕ
-  pub rounds : Rounds count text run ws os input
+  pub rounds : Rounds count text run rs ws os input
   pub over : Over e run input count
   pub bytes : List ℕ
-  pub stream : Stream bytes (run .last) (unread run input) text (run .progress) ws os
+  pub stream : Stream bytes (run .last) (unread run input) text (run .progress) rs ws os
   pub done : e ≡ Done → text ≡ output bytes
 
 -- ── what is said on standard error ──

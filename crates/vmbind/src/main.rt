@@ -15,8 +15,8 @@ ghost use Rattle.script.specs.Progress.{Advances};
 ghost use Rattle.vmbind.specs.Buffers.{gotOf, unread, standing, behind, message};
 ghost use Rattle.vmbind.specs.Buffers.{Below64KiB, Brings, Refilled, Writes, Held, Carries, Ran};
 
-// The input and the output; with the table and the operations of a request on it the buffers are 57,456 bytes together
-// (`Below64KiB`).
+// The input and the output; with the list, the table and the operations of a request on it the buffers are 58,480 bytes
+// together (`Below64KiB`).
 const INPUT_BYTES: usize = 8192;
 
 const OUTPUT_BYTES: usize = 12288;
@@ -122,19 +122,28 @@ fn refill(input: &mut [u8], run: Run) -> Run
 // Lends the unread bytes, and puts what they give into the output.
 fn print(
     run: Run,
+    ranges: &mut [u64],
     table: &mut [u64],
     operations: &mut [u64],
     input: &[u8],
     output: &mut [u8],
 ) -> Turned
     requires { ⌜ Held run (now operations) (length (now input)) × (run .progress .place + length (now input) < 2 ^ 64) ⌝ }
-    ensures { λ t. ⌜ Advances (run .progress) (now (table .entry)) (now (operations .entry)) (unread run (now (input .entry))) (run .last) (now (output .entry)) t (now (table .exit)) (now (operations .exit)) (now (output .exit)) ⌝ }
+    ensures { λ t. ⌜ Advances (run .progress) (now (ranges .entry)) (now (table .entry)) (now (operations .entry)) (unread run (now (input .entry))) (run .last) (now (output .entry)) t (now (ranges .exit)) (now (table .exit)) (now (operations .exit)) (now (output .exit)) ⌝ }
 {
     let progress = run.progress;
     let from = run.from;
     let to = run.to;
     let last = run.last;
-    script::advance(progress, table, operations, &input[from..to], last, output)
+    script::advance(
+        progress,
+        ranges,
+        table,
+        operations,
+        &input[from..to],
+        last,
+        output,
+    )
 }
 
 // Hands over bytes, of which there are some; the system may take fewer.
@@ -202,6 +211,7 @@ fn stands(run: Run, printed: usize, written: usize, end: End) -> Run
 
 // Prints what the bytes at hand give, writes it, and reads more where the program waits for them.
 fn round(
+    ranges: &mut [u64],
     table: &mut [u64],
     operations: &mut [u64],
     input: &mut [u8; INPUT_BYTES],
@@ -209,13 +219,13 @@ fn round(
     run: Run,
 ) -> Run
     requires { ⌜ Held run (now operations) (length (now input)) ⌝ }
-    ensures { λ r. ⌜ Carries run (now (table .entry)) (now (operations .entry)) (now (input .entry))
-        r (now (table .exit)) (now (operations .exit)) (now (input .exit)) (now (output .exit)) ⌝ }
+    ensures { λ r. ⌜ Carries run (now (ranges .entry)) (now (table .entry)) (now (operations .entry)) (now (input .entry))
+        r (now (ranges .exit)) (now (table .exit)) (now (operations .exit)) (now (input .exit)) (now (output .exit)) ⌝ }
 {
     if MOST_PLACE <= run.progress.place {
         return stands(run, 0, 0, End::TooLong);
     }
-    let t = print(run, table, operations, input, output);
+    let t = print(run, ranges, table, operations, input, output);
     let end = t.end;
     let next = turned(run, t);
     let wrote = write_out(output, end);
@@ -233,13 +243,14 @@ fn round(
 
 // Rounds on buffers that are together below 64 KiB, until one ends the run. No script has as many as are counted.
 fn follow(
+    ranges: &mut [u64],
     table: &mut [u64],
     operations: &mut [u64],
     input: &mut [u8; INPUT_BYTES],
     output: &mut [u8; OUTPUT_BYTES],
 ) -> End
-    requires { ⌜ (now table ≡ start .table .words) × (now operations ≡ start .operations) × Below64KiB (now table) (now operations) (now input) (now output) ⌝ }
-    ensures { λ e. ⌜ Ran e (now (table .exit)) (now (operations .exit)) (now (input .exit)) ⌝ }
+    requires { ⌜ (now ranges ≡ start .lent .ranges .words) × (now table ≡ start .lent .table .words) × (now operations ≡ start .operations) × Below64KiB (now ranges) (now table) (now operations) (now input) (now output) ⌝ }
+    ensures { λ e. ⌜ Ran e (now (ranges .exit)) (now (table .exit)) (now (operations .exit)) (now (input .exit)) ⌝ }
 {
     let mut run = Run {
         progress: script::start(),
@@ -252,7 +263,7 @@ fn follow(
     };
     let mut rounds = u64::MAX;
     while 0 < rounds {
-        run = round(table, operations, input, output, run);
+        run = round(ranges, table, operations, input, output, run);
         let end = run.end;
         let End::Going = end else {
             return end;
@@ -276,11 +287,18 @@ fn put_message(out: &mut [u8; OUTPUT_BYTES], end: End) -> usize
 }
 
 fn main() {
+    let mut ranges = [0u64; 128];
     let mut table = [0u64; 1024];
     let mut operations = [0u64; 3598];
     let mut input = [0u8; INPUT_BYTES];
     let mut output = [0u8; OUTPUT_BYTES];
-    let end = follow(&mut table, &mut operations, &mut input, &mut output);
+    let end = follow(
+        &mut ranges,
+        &mut table,
+        &mut operations,
+        &mut input,
+        &mut output,
+    );
     let n = put_message(&mut output, end);
     io::write_all(STDERR_FILENO, &output[..n]);
 }

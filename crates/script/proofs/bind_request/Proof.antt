@@ -27,27 +27,33 @@ same-length c = search needs
 same-length-2 : tie.Need-same-length-2
 same-length-2 c = search needs
 
-returns : tie.Need-returns
-returns c =
-    let b = c .before .before .before .before .before .before .before .before in
-    let a = b .before .before .before .before .before .before .args in
-    λ bs e. rw (c .new .ensures) (record {
-      leaves = bind-answered (a .s) (a .table .now) (a .count) (a .operations .now) bs e (b .bind-record .ensures) (c .before .before .g .given .1);
-      takes = refl;
-    })
-
 same-length-3 : tie.Need-same-length-3
 same-length-3 c = search needs
+
+returns : tie.Need-returns
+returns c =
+    let b = c .before .before .before .before .before .before .before .before .before .before in
+    let a = b .before .before .before .before .before .before .before .before .args in
+    λ bs e. rw (c .new .ensures) (record {
+      leaves = bind-answered (a .s) (a .ranges .now) (a .range-count) (a .table .now) (a .count) (a .operations .now) bs e (b .bind-record .ensures) (c .before .before .g .given .1);
+      takes = refl;
+    })
 
 same-length-4 : tie.Need-same-length-4
 same-length-4 c = search needs
 
+same-length-5 : tie.Need-same-length-5
+same-length-5 c = search needs
+
+same-length-6 : tie.Need-same-length-6
+same-length-6 c = search needs
+
 returns-2 : tie.Need-returns-2
 returns-2 c =
-    let b = c .before .before .before .before .before .before .before .before in
-    let a = b .before .before .before .before .before .before .args in
+    let b = c .before .before .before .before .before .before .before .before .before .before in
+    let a = b .before .before .before .before .before .before .before .before .args in
     λ bs e. rw (c .new2 .ensures) (record {
-      leaves = bind-answered (a .s) (a .table .now) (a .count) (a .operations .now) bs e (b .bind-record .ensures) (c .before .before .w .given .1);
+      leaves = bind-answered (a .s) (a .ranges .now) (a .range-count) (a .table .now) (a .count) (a .operations .now) bs e (b .bind-record .ensures) (c .before .before .w .given .1);
       takes = refl;
     })
 
@@ -62,7 +68,9 @@ bind-request-spec =
     new-requires-2
     same-length
     same-length-2
-    returns
     same-length-3
+    returns
     same-length-4
+    same-length-5
+    same-length-6
     returns-2)

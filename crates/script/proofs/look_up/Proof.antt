@@ -24,18 +24,18 @@ new-requires-2 c κs = search needs
 returns : tie.Need-returns
 returns c =
     let l = c .before .before .before .before in
-    let a = l .before .before .args in
+    let a = l .before .before .before .args in
     λ os bs. rw (c .new .ensures) (record {
-      leaves = lookup-answered (a .s) (a .table .now) (a .count) os bs (a .x) (l .lookup .ensures) (c .before .before .seen .given .1);
+      leaves = lookup-answered (a .s) (a .ranges .now) (a .range-count) (a .table .now) (a .count) os bs (a .x) (l .lookup .ensures) (c .before .before .seen .given .1);
       takes = refl;
     })
 
 returns-2 : tie.Need-returns-2
 returns-2 c =
     let l = c .before .before .before .before in
-    let a = l .before .before .args in
+    let a = l .before .before .before .args in
     λ os bs. rw (c .new2 .ensures) (record {
-      leaves = lookup-answered (a .s) (a .table .now) (a .count) os bs (a .x) (l .lookup .ensures) (c .before .before .w .given .1);
+      leaves = lookup-answered (a .s) (a .ranges .now) (a .range-count) (a .table .now) (a .count) os bs (a .x) (l .lookup .ensures) (c .before .before .w .given .1);
       takes = refl;
     })
 

@@ -12,8 +12,11 @@ slice-aggregate-follow c = search needs
 slice-aggregate-follow-2 : tie.Need-slice-aggregate-follow-2
 slice-aggregate-follow-2 c = search needs
 
+slice-aggregate-follow-3 : tie.Need-slice-aggregate-follow-3
+slice-aggregate-follow-3 c = search needs
+
 follow-requires : tie.Need-follow-requires
-follow-requires c κs = (search needs, search needs, omega arith)
+follow-requires c κs = (search needs, search needs, search needs, omega arith)
 
 put-message-requires : tie.Need-put-message-requires
 put-message-requires c κs = search needs
@@ -36,6 +39,7 @@ main-spec =
     (tie.spec
     slice-aggregate-follow
     slice-aggregate-follow-2
+    slice-aggregate-follow-3
     follow-requires
     put-message-requires
     array-share-prefix-output
