@@ -1,14 +1,15 @@
 -- Rows that pass leave a table and a list that can be searched and changed.
 -- Assumes nothing.
 use mathlib.Core.Path.{_≡_, refl, sym, _∙_}
+use mathlib.Core.Bool.{true}
 use mathlib.Core.List.{List, [], _∷_, _++_}
 use Prim.Native.Nat.{ℕ, zero, suc, _+_, _≤_}
 use native.Mathlib.Omega.{arith}
 use lib.Dec.{eqb→eq}
 use Rattle.model.specs.declared.Request.{Request}
 use Rattle.model.specs.declared.Space.{Space}
-use Rattle.model.specs.Rows.{Row, Reply, answered, decide, verdict}
-use Rattle.model.specs.Rules.{limit, objectTests, offsetTests, requestRows}
+use Rattle.model.specs.Rows.{all, Row, Reply, answered, decide, verdict}
+use Rattle.model.specs.Rules.{limit, spaceTests, objectTests, offsetTests, requestRows}
 use Rattle.model.specs.Table.{mappings, operationsRow, tableRows}
 use Rattle.model.specs.Ranges.{listRow}
 use Rattle.model.specs.Calls.{Lent, lentRows}
@@ -93,6 +94,11 @@ module _ (s : Space) (l : Lent) where
   -- rows 1 to 5, 17 and 18, and those behind them
   pub checked-by : (n : ℕ) (r : Request) {u : Reply (Unit {0})} → u ≡ verdict (own n) → andThen u (verdict (requestRows s r)) ≡ verdict (checkedRows s l n r)
   checked-by n r e = rw e (sym (decide-append (own n) (requestRows s r) tt))
+
+  -- past the table's rows the space keeps its rules
+  pub space-held : (between : List Row) → answered tt ≡ verdict (tableRows s between (l .table)) → all (spaceTests s) ≡ true
+  unfolding tableRows
+  space-held between e = all-true (spaceTests s) (answered-passed (tableRows s between (l .table)) tt tt (sym e) .0 .0)
 
   -- the table's rows, and row 18
   pub lent-by : (between : List Row) {u v : Reply (Unit {0})} → u ≡ verdict (tableRows s between (l .table)) → v ≡ verdict (listRow s (l .ranges) ∷ [])

@@ -17,7 +17,7 @@ ghost use Prim.Native.Nat.{ℕ, _<_};
 ghost use lib.ListN.{length};
 ghost use Rattle.model.specs.Rows.{all, verdict};
 ghost use Rattle.model.specs.Rules.{spaceTests};
-ghost use Rattle.model.specs.Table.{operationsRow};
+ghost use Rattle.model.specs.Table.{operationsRow, tableRows};
 ghost use Rattle.model.specs.Ranges.{listRow};
 ghost use Rattle.model.specs.Calls.{bytes, lentRows, cuts, adds, removes, bind, lookup, verdictReply, answerReply, foundReply};
 ghost use Rattle.table.specs.Places.{lent};
@@ -46,6 +46,16 @@ fn list_verdict(s: Space, ranges: &[u64], range_count: usize) -> Verdict
     Verdict::Pass
 }
 
+// Rows 1, 2, 4, 5 and 17: a look-up's, of the table alone.
+fn lookup_table_verdict(s: Space, table: &[u64], count: usize) -> Verdict
+    ensures { λ v. ⌜ verdictReply v ≡ verdict (tableRows s [] (lent (now (table .entry)) count)) ⌝ }
+{
+    if !rules::space_keeps_rules(s) {
+        return Verdict::Refuse(Refusal::BadSpace);
+    }
+    inspect::table_verdict(s, table, count)
+}
+
 // Rows 1, 2, 4, 5, 17 and 18.
 fn lookup_verdict(
     s: Space,
@@ -56,10 +66,7 @@ fn lookup_verdict(
 ) -> Verdict
     ensures { λ v. ⌜ verdictReply v ≡ verdict (lentRows s [] (lentWords (now (ranges .entry)) «range_count» (now (table .entry)) count)) ⌝ }
 {
-    if !rules::space_keeps_rules(s) {
-        return Verdict::Refuse(Refusal::BadSpace);
-    }
-    match inspect::table_verdict(s, table, count) {
+    match lookup_table_verdict(s, table, count) {
         Verdict::Refuse(w) => Verdict::Refuse(w),
         Verdict::Pass => list_verdict(s, ranges, range_count),
     }
@@ -86,16 +93,9 @@ pub fn lookup(
     }
 }
 
-// Rows 1 to 5, 17 and 18, with so many words lent for operations.
-fn lent_verdict(
-    s: Space,
-    ranges: &[u64],
-    range_count: usize,
-    table: &[u64],
-    count: usize,
-    operation_words: usize,
-) -> Verdict
-    ensures { λ v. ⌜ verdictReply v ≡ verdict (lentRows s (operationsRow «operation_words» (lent (now (table .entry)) count) ∷ []) (lentWords (now (ranges .entry)) «range_count» (now (table .entry)) count)) ⌝ }
+// Rows 1 to 5 and 17, of the table alone, with so many words lent for operations.
+fn table_verdict(s: Space, table: &[u64], count: usize, operation_words: usize) -> Verdict
+    ensures { λ v. ⌜ verdictReply v ≡ verdict (tableRows s (operationsRow «operation_words» (lent (now (table .entry)) count) ∷ []) (lent (now (table .entry)) count)) ⌝ }
 {
     if !rules::space_keeps_rules(s) {
         return Verdict::Refuse(Refusal::BadSpace);
@@ -106,7 +106,21 @@ fn lent_verdict(
     if !cut::operations_fit(operation_words, table.len() / 4) {
         return Verdict::Refuse(Refusal::ShortOperations);
     }
-    match inspect::contents_verdict(s, table, count) {
+    inspect::contents_verdict(s, table, count)
+}
+
+// Rows 1 to 5, 17 and 18.
+fn lent_verdict(
+    s: Space,
+    ranges: &[u64],
+    range_count: usize,
+    table: &[u64],
+    count: usize,
+    operation_words: usize,
+) -> Verdict
+    ensures { λ v. ⌜ verdictReply v ≡ verdict (lentRows s (operationsRow «operation_words» (lent (now (table .entry)) count) ∷ []) (lentWords (now (ranges .entry)) «range_count» (now (table .entry)) count)) ⌝ }
+{
+    match table_verdict(s, table, count, operation_words) {
         Verdict::Refuse(w) => Verdict::Refuse(w),
         Verdict::Pass => list_verdict(s, ranges, range_count),
     }

@@ -129,12 +129,6 @@ bindRows s l n q =
     recordRow q ∷ (formRows sparseFlag (asked q)
     ++ (lentRows s (operationsRow n (l .table) ∷ []) l ++ (requestRows s (asked q) ++ lastRows (purpose (asked q)) (asked q) l)))
 
--- the list of ranges after a grant
-abbrev pub rangesAfter : Purpose → Request → List Range → List Range
-rangesAfter cuts r xs = xs
-rangesAfter adds r xs = insertRange (rangeOf r) xs
-rangesAfter removes r xs = removeRange (rangeOf r) xs
-
 -- on a grant the answer gives the number of operations, of which a request with the flag makes none, and the new counts
 abbrev pub cutGrant : Request → Lent → Grant
 cutGrant r l = record {
@@ -148,8 +142,8 @@ listGrant xs l = record { operations = 0; count = l .table .count; ranges = leng
 
 abbrev pub grantFor : Purpose → Request → Lent → Grant
 grantFor cuts r l = cutGrant r l
-grantFor adds r l = listGrant (rangesAfter adds r (ranges (l .ranges))) l
-grantFor removes r l = listGrant (rangesAfter removes r (ranges (l .ranges))) l
+grantFor adds r l = listGrant (insertRange (rangeOf r) (ranges (l .ranges))) l
+grantFor removes r l = listGrant (removeRange (rangeOf r) (ranges (l .ranges))) l
 
 -- what a map or unmap answers, and every lent word after it
 pub record Outcome : Type 0 where
@@ -184,8 +178,8 @@ relisted g xs l os = record {
 abbrev pub outcomeFor : Reply Grant → Purpose → Request → Lent → List ℕ → Outcome
 outcomeFor (refused n p) for r l os = untouched (refused n p) l os
 outcomeFor (answered g) cuts r l os = cut g r l os
-outcomeFor (answered g) adds r l os = relisted g (rangesAfter adds r (ranges (l .ranges))) l os
-outcomeFor (answered g) removes r l os = relisted g (rangesAfter removes r (ranges (l .ranges))) l os
+outcomeFor (answered g) adds r l os = relisted g (insertRange (rangeOf r) (ranges (l .ranges))) l os
+outcomeFor (answered g) removes r l os = relisted g (removeRange (rangeOf r) (ranges (l .ranges))) l os
 
 -- map and unmap, by numbers or by record, with the flag or without, for any input
 unfoldable pub bind : Space → Lent → List ℕ → Asking → Outcome

@@ -14,6 +14,7 @@ line-texts p os = record {
   of-space = λ n. simp append-nil;
   of-grant = λ g. simp (append-assoc, append-nil);
   of-nothing = λ x n. simp append-nil;
+  of-sparse = λ x n. simp append-nil;
   of-object = λ x o f n. simp (append-assoc, append-nil);
   of-refusal = λ n q. simp append-nil;
   of-mark = simp append-nil;

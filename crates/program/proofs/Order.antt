@@ -3,18 +3,18 @@
 use mathlib.Core.Path.{_≡_, refl, sym, ap, ap₂, subst, _∙_}
 use mathlib.Core.Bool.{Bool, true, false, _&&_}
 use mathlib.Core.List.{List, [], _∷_, _++_, append-nil}
-use Prim.Native.Nat.{ℕ, suc, _+_, _<_}
+use Prim.Native.Nat.{ℕ, zero, suc, _+_, _<_}
 use native.Mathlib.Omega.{arith}
 use lib.Dec.{eqb}
 use lib.ListN.{length, take, drop, length-drop}
 use borrow.Author.Tests.{lt-leb, eqb-true, ne-eqb}
 use Rattle.model.specs.Rows.{Reply}
-use Rattle.model.specs.Calls.{bytes, countAfter, lookup}
+use Rattle.model.specs.Calls.{requestOf, bytes, Lent, purposeFor, countAfter, rangesCountAfter, lookup}
 use Rattle.model.proofs.Exactly.{exactly}
-use Rattle.program.specs.Prelude.{Seen, Grant}
+use Rattle.program.specs.Prelude.{Request, Seen, Grant}
 use Rattle.program.specs.Text.{ascii}
-use Rattle.program.specs.Script.{hasMark, recordAt, recordSize, State, granted, shows, refusal, otherMark, cut, toldBy, bindIn, stepOn, step, lines, operationsIn, run, output}
-use Rattle.program.specs.Claims.{Fronts, Takes, InOrder, RunsInOrder, DoesCalls}
+use Rattle.program.specs.Script.{hasMark, recordAt, recordSize, State, granted, shows, refusal, otherMark, cut, toldBy, bindIn, requestIn, stepOn, step, lines, operationsFor, operationsIn, run, output}
+use Rattle.program.specs.Claims.{Fronts, Takes, InOrder, Lists, RunsInOrder, DoesCalls}
 use Rattle.program.specs.declared.ScriptRecord.{ScriptRecord}
 use Rattle.program.specs.declared.ScriptRecord.the-variants.{SetSpace, Bind, LookUp, OtherMark, Cut, End}
 use Rattle.program.proofs.Lines.{line-texts}
@@ -87,9 +87,22 @@ in-order st p (b ∷ bs) = record {
   stops-end = λ e. rw e;
 }
 
+-- with the flag a request makes no operation, whatever its op
+none-flagged : (n op : ℕ) (r : Request) (l : Lent) → n ≡ 256 → operationsFor (purposeFor n op) r l ≡ []
+none-flagged n zero r l e = ap (λ (f : ℕ). operationsFor (purposeFor f zero) r l) e
+none-flagged n (suc k) r l e = ap (λ (f : ℕ). operationsFor (purposeFor f (suc k)) r l) e
+
+lists : (st : State) (bs : List ℕ) → Lists st bs
+lists st bs =
+    let r : Request = requestOf (requestIn bs) in
+    record {
+      plain = λ e. ap (λ (f : ℕ). operationsFor (purposeFor f (r .op)) r (st .lent)) e;
+      flagged = λ e. none-flagged (r .flags) (r .op) r (st .lent) e;
+    }
+
 pub runs-in-order : RunsInOrder
 unfolding output
-runs-in-order = record { from = λ bs. refl; on = in-order }
+runs-in-order = record { from = λ bs. refl; on = in-order; listed = lists }
 
 -- ── what a record does ──
 
@@ -103,7 +116,10 @@ module _ (st : State) (bs : List ℕ) where
     told = toldBy granted u;
     state = record {
       space = st .space;
-      table = record { words = bindIn st bs .table; count = countAfter u (st .table .count) };
+      lent = record {
+        table = record { words = bindIn st bs .table; count = countAfter u (st .lent .table .count) };
+        ranges = record { words = bindIn st bs .ranges; count = rangesCountAfter u (st .lent .ranges .count) };
+      };
       operations = bindIn st bs .operations;
     };
   }
@@ -111,22 +127,32 @@ module _ (st : State) (bs : List ℕ) where
     told = toldBy granted (e i);
     state = record {
       space = st .space;
-      table = record { words = bindIn st bs .table; count = countAfter (e i) (st .table .count) };
+      lent = record {
+        table = record { words = bindIn st bs .table; count = countAfter (e i) (st .lent .table .count) };
+        ranges = record { words = bindIn st bs .ranges; count = rangesCountAfter (e i) (st .lent .ranges .count) };
+      };
       operations = bindIn st bs .operations;
     };
   }
 
-  look-does : (x : ℕ) {u : Reply Seen} → lookup (st .space) (st .table) x ≡ u → stepOn (LookUp x) st bs ≡ record { told = toldBy (shows x) u; state = st }
+  look-does : (x : ℕ) {u : Reply Seen} → lookup (st .space) (st .lent) x ≡ u → stepOn (LookUp x) st bs ≡ record { told = toldBy (shows x) u; state = st }
   look-does x e = λ i. record { told = toldBy (shows x) (e i); state = st }
 
 pub does-calls : DoesCalls
 does-calls st bs = record {
   binds = λ g r e. step-is st bs r ∙ bind-does st bs e;
   refuses = λ n p r e.
-      let k = exactly .unchanged (st .space) (st .table) (st .operations) (bytes (take 40 (drop 2 bs))) n p e in
+      let k = exactly .unchanged (st .space) (st .lent) (st .operations) (bytes (take 40 (drop 2 bs))) n p e in
       step-is st bs r ∙ bind-does st bs e ∙ λ i. record {
         told = refusal n p;
-        state = record { space = st .space; table = record { words = k .0 i; count = st .table .count }; operations = k .1 i };
+        state = record {
+          space = st .space;
+          lent = record {
+            table = record { words = k .0 i; count = st .lent .table .count };
+            ranges = record { words = k .1 i; count = st .lent .ranges .count };
+          };
+          operations = k .2 i;
+        };
       };
   looks = λ x v r e. step-is st bs r ∙ look-does st bs x e;
   looks-refused = λ x n p r e. step-is st bs r ∙ look-does st bs x e;

@@ -48,10 +48,10 @@ from-end ws n i e = ap (λ (k : ℕ). drop k (mappingsIn n ws)) (e ∙ sym (leng
 
 -- ── a table that passed its check ──
 
-pub each-at : (P : Mapping → Type 0) (ms : List Mapping) (i : ℕ) (d : Mapping) → Each P ms → i < length ms → P (getD ms i d)
+pub each-at : {A : Type 0} (P : A → Type 0) (xs : List A) (i : ℕ) (d : A) → Each P xs → i < length xs → P (getD xs i d)
 each-at P [] i d h l = absurd (omega arith)
-each-at P (m ∷ ms) zero d h l = h .0
-each-at P (m ∷ ms) (suc i) d h l = each-at P ms i d (h .1) (omega arith)
+each-at P (x ∷ xs) zero d h l = h .0
+each-at P (x ∷ xs) (suc i) d h l = each-at P xs i d (h .1) (omega arith)
 
 module _ {ws : List ℕ} {n : ℕ} (v : Valid ws n) where
   pub valid-chain : Chain (v .space) 0 (top (v .space)) (mappingsIn n ws)

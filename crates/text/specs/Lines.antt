@@ -8,7 +8,7 @@ use lib.ListN.{length}
 use Rattle.model.specs.declared.Mapping.{Mapping}
 use Rattle.model.specs.Rows.{choose}
 use Rattle.model.specs.Table.{wordsOf}
-use Rattle.program.specs.Text.{spaced, line}
+use Rattle.program.specs.Text.{spaced, phrase, line}
 use Rattle.words.specs.Words.{stored}
 
 -- the bytes `run` written over those of a slice from `at` on, at most so many; the place behind them
@@ -27,3 +27,7 @@ lineOf word ns = phraseOf word ns ++ (10 ∷ [])
 -- the model's line with a keep mark
 abbrev pub keepOf : List ℕ → Bool → Mapping → List ℕ
 keepOf word keep m = phraseOf word (wordsOf m) ++ line " keep" (choose keep 1 0 ∷ [])
+
+-- the model's line of an address in no mapping
+abbrev pub bareOf : ℕ → List ℕ → ℕ → List ℕ
+bareOf x word n = phrase "at" (x ∷ []) ++ lineOf word (n ∷ [])

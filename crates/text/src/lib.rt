@@ -11,7 +11,7 @@ ghost use lib.ListN.{length};
 ghost use Rattle.model.specs.Table.{wordsOf};
 ghost use Rattle.program.specs.Text.{decimal, spaced, restLines, operationLines, shownLine};
 ghost use Rattle.program.specs.Script.{lines, responseTold};
-ghost use Rattle.text.specs.Lines.{Put, phraseOf, lineOf, keepOf};
+ghost use Rattle.text.specs.Lines.{Put, phraseOf, lineOf, keepOf, bareOf};
 
 // The lines of an operation have no more bytes than this; an answer's line has fewer.
 pub const MOST_OPERATION: usize = 320;
@@ -132,6 +132,15 @@ pub fn put_operation(out: &mut [u8], at: usize, operation: Operation) -> usize
     }
 }
 
+// The line of an address in no mapping: a word for what it shows there, and for how many bytes.
+fn put_bare(out: &mut [u8], at: usize, x: u64, word: &[u8], bytes: u64) -> usize
+    requires { ⌜ at + (length (now word) + 45) ≤ length (now out) ⌝ }
+    ensures { λ end. ⌜ Put (now (out .entry)) at (bareOf x (now (word .entry)) bytes) (now (out .exit)) end (length (now (word .entry)) + 45) ⌝ }
+{
+    let behind = put_phrase(out, at, b"at", &[x]);
+    put_line(out, behind, word, &[bytes])
+}
+
 // The line of an address, what it shows, and for how many bytes.
 fn put_shown(out: &mut [u8], at: usize, x: u64, shown: Shown, bytes: u64) -> usize
     requires { ⌜ at + 128 ≤ length (now out) ⌝ }
@@ -139,10 +148,8 @@ fn put_shown(out: &mut [u8], at: usize, x: u64, shown: Shown, bytes: u64) -> usi
 {
     match shown {
         Shown::Object(object, offset) => put_line(out, at, b"at", &[x, object, offset, bytes]),
-        Shown::Nothing => {
-            let behind = put_phrase(out, at, b"at", &[x]);
-            put_line(out, behind, b" none", &[bytes])
-        }
+        Shown::Sparse => put_bare(out, at, x, b" sparse", bytes),
+        Shown::Nothing => put_bare(out, at, x, b" none", bytes),
     }
 }
 

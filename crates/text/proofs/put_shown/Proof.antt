@@ -2,7 +2,7 @@
 -- Assumes nothing.
 use native.Mathlib.Omega.{arith}
 use Rattle.program.specs.Text.{ascii}
-use Rattle.text.proofs.Puts.{put-most, put-behind}
+use Rattle.text.proofs.Puts.{put-most}
 use borrow.Author.Needs.{needs}
 use Rattle.text.proofs.put_shown.Statement.{statement}
 use Rattle.text.proofs.put_shown.Tie as tie
@@ -22,23 +22,20 @@ put-line-requires c κs = search needs
 enum-told : tie.Need-enum-told
 enum-told c = search needs
 
-slice-aggregate-put-phrase : tie.Need-slice-aggregate-put-phrase
-slice-aggregate-put-phrase c = search needs
+slice-aggregate-put-bare : tie.Need-slice-aggregate-put-bare
+slice-aggregate-put-bare c = search needs
 
-slice-aggregate-put-phrase-2 : tie.Need-slice-aggregate-put-phrase-2
-slice-aggregate-put-phrase-2 c = search needs
+put-bare-requires : tie.Need-put-bare-requires
+put-bare-requires c κs = search needs
 
-put-phrase-requires : tie.Need-put-phrase-requires
-put-phrase-requires c κs = search needs
+enum-told-2 : tie.Need-enum-told-2
+enum-told-2 c = search needs
 
-slice-aggregate-put-line-3 : tie.Need-slice-aggregate-put-line-3
-slice-aggregate-put-line-3 c = search needs
+slice-aggregate-put-bare-2 : tie.Need-slice-aggregate-put-bare-2
+slice-aggregate-put-bare-2 c = search needs
 
-slice-aggregate-put-line-4 : tie.Need-slice-aggregate-put-line-4
-slice-aggregate-put-line-4 c = search needs
-
-put-line-requires-2 : tie.Need-put-line-requires-2
-put-line-requires-2 c κs = search needs
+put-bare-requires-2 : tie.Need-put-bare-requires-2
+put-bare-requires-2 c κs = search needs
 
 same-length : tie.Need-same-length
 same-length c = search needs
@@ -56,9 +53,16 @@ returns-2 : tie.Need-returns-2
 unfolding ascii
 returns-2 c =
     let line = c .before .before in
-    let phrase = line .before .before .before .before .before .before in
-    rw (phrase .before .before .before .before .enum-told .given .1)
-    (put-most (omega arith) (put-behind (omega arith) (phrase .put-phrase .ensures) (line .put-line2 .ensures)))
+    rw (line .before .before .before .enum-told .given .1) (put-most (omega arith) (line .put-bare .ensures))
+
+same-length-3 : tie.Need-same-length-3
+same-length-3 c = search needs
+
+returns-3 : tie.Need-returns-3
+unfolding ascii
+returns-3 c =
+    let line = c .before .before in
+    rw (line .before .before .before .enum-told2 .given .1) (put-most (omega arith) (line .put-bare2 .ensures))
 
 pub put-shown-spec : {M : Type 1} → statement M
 put-shown-spec =
@@ -69,13 +73,14 @@ put-shown-spec =
     slice-aggregate-put-line-2
     put-line-requires
     enum-told
-    slice-aggregate-put-phrase
-    slice-aggregate-put-phrase-2
-    put-phrase-requires
-    slice-aggregate-put-line-3
-    slice-aggregate-put-line-4
-    put-line-requires-2
+    slice-aggregate-put-bare
+    put-bare-requires
+    enum-told-2
+    slice-aggregate-put-bare-2
+    put-bare-requires-2
     same-length
     returns
     same-length-2
-    returns-2)
+    returns-2
+    same-length-3
+    returns-3)

@@ -1,11 +1,11 @@
--- `bind::lent_verdict` meets its contract.
+-- `bind::table_verdict` meets its contract.
 -- Assumes nothing.
 use Rattle.model.specs.Rows.{decide}
 use Rattle.model.specs.Table.{tableRows}
 use Rattle.rules.proofs.Laws.{held, failed}
 use borrow.Author.Needs.{needs}
-use Rattle.bind.proofs.lent_verdict.Statement.{statement}
-use Rattle.bind.proofs.lent_verdict.Tie as tie
+use Rattle.bind.proofs.table_verdict.Statement.{statement}
+use Rattle.bind.proofs.table_verdict.Tie as tie
 
 space-keeps-rules-requires : tie.Need-space-keeps-rules-requires
 space-keeps-rules-requires c κs = search needs
@@ -53,8 +53,8 @@ returns-4 c =
     )
     (c .contents-verdict .ensures)
 
-pub lent-verdict-spec : {M : Type 1} → statement M
-lent-verdict-spec =
+pub table-verdict-spec : {M : Type 1} → statement M
+table-verdict-spec =
     tie.close
     (tie.spec
     space-keeps-rules-requires

@@ -1,0 +1,9 @@
+pub mod Places
+pub mod Fits
+pub mod First
+pub mod Changed
+pub mod Edges
+pub mod Found
+pub mod Looks
+pub mod Sees
+pub mod Words

@@ -1,0 +1,3 @@
+pub mod Beside
+pub mod Changes
+pub mod Lists
