@@ -7,3 +7,4 @@ pub mod Found
 pub mod Looks
 pub mod Sees
 pub mod Words
+pub mod Worked

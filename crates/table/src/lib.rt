@@ -25,6 +25,7 @@ pub enum Replacement {
 }
 
 // A search for the first mapping that ends behind a byte address: its place is from `lo` to `hi`, after `looks` looks at one mapping each.
+// Sparse ranges are searched in the same way, each as a mapping of its addresses.
 pub struct Search {
     pub lo: usize,
     pub hi: usize,

@@ -1,0 +1,48 @@
+-- `bind::lookup_verdict` meets its contract.
+-- Assumes nothing.
+use mathlib.Core.Path.{refl, sym, ap, _∙_}
+use mathlib.Core.List.{[]}
+use Rattle.model.specs.Calls.{verdictReply}
+use Rattle.bind.specs.Bound.{lentWords}
+use Rattle.bind.proofs.Checked.{space-held, lent-by}
+use borrow.Author.Needs.{needs}
+use Rattle.bind.proofs.lookup_verdict.Statement.{statement}
+use Rattle.bind.proofs.lookup_verdict.Tie as tie
+
+lookup-table-verdict-requires : tie.Need-lookup-table-verdict-requires
+lookup-table-verdict-requires c κs = search needs
+
+enum-known-w : tie.Need-enum-known-w
+enum-known-w c = search needs
+
+enum-told : tie.Need-enum-told
+enum-told c = search needs
+
+list-verdict-requires : tie.Need-list-verdict-requires
+list-verdict-requires c κs =
+    let tabled = c .before .before in
+    let a = tabled .before .before .before .args in
+    space-held (a .s) (lentWords (a .ranges .now) (a .range-count) (a .table .now) (a .count)) [] (sym (ap verdictReply (c .enum-told .given .1)) ∙ tabled .lookup-table-verdict .ensures)
+
+returns : tie.Need-returns
+returns c =
+    let tabled = c .before .before .before in
+    let a = tabled .before .before .before .args in
+    lent-by (a .s) (lentWords (a .ranges .now) (a .range-count) (a .table .now) (a .count)) [] (sym (ap verdictReply (c .before .w .given .1)) ∙ tabled .lookup-table-verdict .ensures) refl
+
+returns-2 : tie.Need-returns-2
+returns-2 c =
+    let tabled = c .before .before .before in
+    let a = tabled .before .before .before .args in
+    lent-by (a .s) (lentWords (a .ranges .now) (a .range-count) (a .table .now) (a .count)) [] (sym (ap verdictReply (c .before .enum-told .given .1)) ∙ tabled .lookup-table-verdict .ensures) (c .list-verdict .ensures)
+
+pub lookup-verdict-spec : {M : Type 1} → statement M
+lookup-verdict-spec =
+    tie.close
+    (tie.spec
+    lookup-table-verdict-requires
+    enum-known-w
+    enum-told
+    list-verdict-requires
+    returns
+    returns-2)
