@@ -10,7 +10,7 @@ use Rattle.model.specs.declared.Space.{Space}
 use Rattle.model.specs.Rows.{Row, Reply, refused, answered, decide, verdict}
 use Rattle.model.specs.Rules.{sparseFlag, formRows, requestRows}
 use Rattle.model.specs.Table.{operationsRow}
-use Rattle.model.specs.Calls.{bytes, asked, requestOf, recordRows, decode, Lent, lentRows, Purpose, purpose, lastRows, grantFor, Outcome, untouched, outcomeFor, bindRows, bind}
+use Rattle.model.specs.Calls.{bytes, asked, requestOf, recordRows, decode, Lent, lentRows, purpose, lastRows, grantFor, Outcome, untouched, outcomeFor, bindRows, bind}
 use Rattle.model.proofs.Rows.{andThen, decide-append, decide-verdict}
 use Rattle.bind.specs.declared.Numbers.{Numbers}
 use Rattle.bind.specs.Bound.{numbersOf, checkedRows, decided, bound}

@@ -2,13 +2,13 @@
 -- Assumes nothing.
 use mathlib.Core.Path.{_≡_, refl, sym, _∙_}
 use mathlib.Core.Bool.{true}
-use mathlib.Core.List.{List, [], _∷_, _++_}
+use mathlib.Core.List.{List, [], _∷_}
 use Prim.Native.Nat.{ℕ, zero, suc, _+_, _≤_}
 use native.Mathlib.Omega.{arith}
 use lib.Dec.{eqb→eq}
 use Rattle.model.specs.declared.Request.{Request}
 use Rattle.model.specs.declared.Space.{Space}
-use Rattle.model.specs.Rows.{all, Row, Reply, answered, decide, verdict}
+use Rattle.model.specs.Rows.{all, Row, Reply, answered, verdict}
 use Rattle.model.specs.Rules.{limit, spaceTests, objectTests, offsetTests, requestRows}
 use Rattle.model.specs.Table.{mappings, operationsRow, tableRows}
 use Rattle.model.specs.Ranges.{listRow}

@@ -1,5 +1,5 @@
-// The public calls on a table and a list of sparse ranges: any space, any words, any counts and any numbers get the answer, and leave the
-// words, that the model gives.
+// The public calls on a table and a list of sparse ranges: any space, any words, any counts and any numbers get the
+// answer, and leave the words, that the model gives.
 use change::ChangeAnswer;
 use model::Answer;
 use model::Decoded;

@@ -8,7 +8,7 @@ use mathlib.Core.List.{List, [], _∷_, List·Memᴰ·not-nil}
 use Prim.Native.Nat.{ℕ, _+_, _-_, _≤_, _<_}
 use native.Mathlib.Omega.{arith}
 use lib.ListN.{length}
-use Rattle.model.specs.Prelude.{Range, Space, Mapping, Request, Operation, Shown, Nothing, Sparse, Object}
+use Rattle.model.specs.Prelude.{Range, Space, Mapping, Request, Operation, Shown, Sparse, Object}
 use Rattle.model.specs.Rows.{all, choose, Reply, answered}
 use Rattle.model.specs.Rules.{end, stop}
 use Rattle.model.specs.Table.{mappings}

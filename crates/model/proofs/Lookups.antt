@@ -17,13 +17,13 @@ use Rattle.model.specs.Calls.{Lent, lentRows, seeIn, lookup}
 use Rattle.model.specs.Exactly.{_∈_, Each, MappingRules, TableRules, RangeRules}
 use Rattle.model.specs.Lookups.{Has, Free, InRange, Edge, of-mapping, of-start, of-end, of-space, Next, InSpace, Tells, along, Parts, RangeParts, GoesOn, Lookup}
 use Rattle.model.proofs.Numbers.{order}
-use Rattle.model.proofs.Tests.{tests, all-true, all-same}
+use Rattle.model.proofs.Tests.{tests, all-same}
 use Rattle.model.proofs.Actions.{each-mem}
 use Rattle.model.proofs.Table.{top, table-says}
 use Rattle.model.proofs.Rows.{Passed, answered-passed, passes}
 use Rattle.model.proofs.Groups.{lent-passed}
 use Rattle.model.proofs.Ranges.{list-row-says, bare-in, bare-none}
-use Rattle.model.proofs.See.{runEnd-none, runEnd-free, rest-free, shows, bytes-of, has-or-free, inside-or-not, offEnd, see-member, see-free, see-outside}
+use Rattle.model.proofs.See.{runEnd-none, runEnd-free, rest-free, sight, bytes-of, has-or-free, inside-or-not, offEnd, see-member, see-free, see-outside}
 
 -- ── the next edge ──
 
@@ -163,7 +163,7 @@ along-bare n (y ∷ ys) x = go (all (inRangeTests y x)) (along-bare n ys x)
 -- what is seen at an address in the space, by what decides it
 pub data Sight (s : Space) (ys : List Range) (ms : List Mapping) (x : ℕ) : Seen → Type 0 where
   in-mapping : (m : Mapping) → m ∈ ms → Has m x → Sight s ys ms x (bytes-of m x)
-  off-mappings : Free ms x → (e : ℕ) → Next s ys ms x e → Sight s ys ms x (shows (bare ys x) (e - x))
+  off-mappings : Free ms x → (e : ℕ) → Next s ys ms x e → Sight s ys ms x (sight (bare ys x) (e - x))
 
 module _ (s : Space) (ys : List Range) (ms : List Mapping) (q : Each (RangeRules s) ys) (r : TableRules s ms) where
   within : (m : Mapping) → m ∈ ms → MappingRules s m
@@ -184,16 +184,17 @@ module _ (s : Space) (ys : List Range) (ms : List Mapping) (q : Each (RangeRules
   see-mapped : (x : ℕ) (m : Mapping) → m ∈ ms → Has m x → see s ys ms x ≡ bytes-of m x
   see-mapped x m i b = see-member s ys ms m x (r .1) (omega (arith, within m i .within .0), omega (arith, within m i .within .1)) i b
 
-  see-next : (x : ℕ) → InSpace s x → Free ms x → (e : ℕ) → Next s ys ms x e → see s ys ms x ≡ shows (bare ys x) (e - x)
+  see-next : (x : ℕ) → InSpace s x → Free ms x → (e : ℕ) → Next s ys ms x e → see s ys ms x ≡ sight (bare ys x) (e - x)
   see-next x i f e n =
-      see-free s ys ms x i f ∙ ap (λ (k : ℕ). shows (bare ys x) (k - x)) (next-one s ys ms (next-free s x i ys ms f) n)
+      see-free s ys ms x i f ∙ ap (λ (k : ℕ). sight (bare ys x) (k - x)) (next-one s ys ms (next-free s x i ys ms f) n)
 
   tells : (x : ℕ) → Tells s ys ms x (see s ys ms x)
   tells x = record {
     mapped = see-mapped x;
-    sparse = λ i f y k b e n. see-next x i f e n ∙ ap (λ (v : Shown). shows v (e - x)) (bare-in ys y x k b);
-    bare = λ i f none e n. see-next x i f e n ∙ ap (λ (v : Shown). shows v (e - x)) (bare-none ys x none);
+    sparse = λ i f y k b e n. see-next x i f e n ∙ ap (λ (v : Shown). sight v (e - x)) (bare-in ys y x k b);
+    bare = λ i f none e n. see-next x i f e n ∙ ap (λ (v : Shown). sight v (e - x)) (bare-none ys x none);
     outside = see-outside s ys ms q r x;
+    next = λ i. next-some s x i ys ms;
   }
 
   -- ── what it is good for ──
@@ -261,18 +262,18 @@ module _ (s : Space) (ys : List Range) (ms : List Mapping) (q : Each (RangeRules
         ends y i b (inl l) = absurd (omega (arith, n .nearest (rangeEnd y) (of-end y i refl) (b .1)))
         ends y i b (inr l) = l
 
-  same : (x y : ℕ) → y < see s ys ms x .bytes → see s ys ms (x + y) ≡ shows (along y (see s ys ms x .shown)) (see s ys ms x .bytes - y)
+  same : (x y : ℕ) → y < see s ys ms x .bytes → see s ys ms (x + y) ≡ sight (along y (see s ys ms x .shown)) (see s ys ms x .bytes - y)
   same x y h = pick (inside-or-not s x)
     where
-      go : {v : Seen} → InSpace s x → Sight s ys ms x v → y < v .bytes → see s ys ms (x + y) ≡ shows (along y (v .shown)) (v .bytes - y)
-      go i (in-mapping m j c) l = see-mapped (x + y) m j (omega arith, omega arith) ∙ ap₂ (λ (f b : ℕ). shows (Object (m .object) f) b) (omega arith) (omega arith)
+      go : {v : Seen} → InSpace s x → Sight s ys ms x v → y < v .bytes → see s ys ms (x + y) ≡ sight (along y (v .shown)) (v .bytes - y)
+      go i (in-mapping m j c) l = see-mapped (x + y) m j (omega arith, omega arith) ∙ ap₂ (λ (f b : ℕ). sight (Object (m .object) f) b) (omega arith) (omega arith)
       go i (off-mappings f e n) l =
           let low : x ≤ x + y = omega arith in
           let high : x + y < e = omega arith in
           see-next (x + y) (omega arith, omega (arith, edge-most e (n .edge))) (free-on x (x + y) e n low high f) e (next-on x (x + y) e n low high)
-          ∙ ap₂ shows (bare-on x (x + y) e n low high ∙ sym (along-bare y ys x)) (omega arith)
+          ∙ ap₂ sight (bare-on x (x + y) e n low high ∙ sym (along-bare y ys x)) (omega arith)
 
-      pick : InSpace s x ⊎ (InSpace s x → ⊥) → see s ys ms (x + y) ≡ shows (along y (see s ys ms x .shown)) (see s ys ms x .bytes - y)
+      pick : InSpace s x ⊎ (InSpace s x → ⊥) → see s ys ms (x + y) ≡ sight (along y (see s ys ms x .shown)) (see s ys ms x .bytes - y)
       pick (inl i) = go i (sees x i) h
       pick (inr n) = absurd (omega (arith, h, ap (λ (v : Seen). v .bytes) (see-outside s ys ms q r x n)))
 
@@ -305,7 +306,6 @@ module _ (s : Space) (l : Lent) (x : ℕ) (v : Seen) (e : lookup s l x ≡ answe
           same = λ y h. answered-all (x + y) ∙ ap answered (same s ys ms q r x y h);
           some = some s ys ms q r x;
           stops = stops s ys ms q r x;
-          next = λ i. next-some s x i ys ms;
         }),
       )
 

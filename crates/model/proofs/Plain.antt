@@ -13,7 +13,7 @@ use Rattle.model.specs.Rows.{all, Row, row, Reply, refused, choose, deci
 use Rattle.model.specs.Rules.{sparseFlag, formRows, requestRows}
 use Rattle.model.specs.Table.{capacity, mappings, operationsRow}
 use Rattle.model.specs.Cut.{after}
-use Rattle.model.specs.Calls.{Asking, asked, recordRow, Lent, lentRows, Purpose, cuts, purposeFor, purpose, lastRows, bindRows, grantFor, outcomeFor, bind}
+use Rattle.model.specs.Calls.{Asking, asked, recordRow, Lent, lentRows, cuts, purposeFor, purpose, lastRows, bindRows, grantFor, outcomeFor, bind}
 use Rattle.model.specs.Exactly.{Unflagged}
 use Rattle.model.proofs.Tests.{all-facts, or-cases}
 use Rattle.model.proofs.Rows.{Passed, passed-split}

@@ -26,12 +26,15 @@ use Rattle.model.proofs.Zeros.{places-say}
 
 pub range-says : (s : Space) (from : ℕ) (x : Range) → Says (rangeTests s from x) ((from ≤ x .start) × RangeRules s x)
 range-says s from x = (
-  λ h. (omega tests, record {
-    multiples = (omega tests, omega tests);
-    not-empty = omega tests;
-    within = (omega tests, omega tests);
-    unreserved = apart-shares _ _ _ _ (omega tests);
-  }),
+  λ h. (
+    omega tests,
+    record {
+      multiples = (omega tests, omega tests);
+      not-empty = omega tests;
+      within = (omega tests, omega tests);
+      unreserved = apart-shares _ _ _ _ (omega tests);
+    },
+  ),
   λ r. let k = shares-apart _ _ _ _ (r .1 .unreserved) in omega tests,
 )
 

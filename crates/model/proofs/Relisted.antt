@@ -4,14 +4,14 @@ use mathlib.Core.Path.{_≡_, refl, sym, ap, subst, _∙_}
 use mathlib.Core.Logic.{_⊎_, _↔_, inl, inr}
 use mathlib.Core.Bool.{Bool, true, false}
 use mathlib.Core.List.{List, [], _∷_, List·Memᴰ·head, List·Memᴰ·tail, List·Memᴰ·not-nil, List·Memᴰ·cases-cons}
-use Prim.Native.Nat.{ℕ, suc, _+_, _-_, _*_, _/_, _≤_, _<_}
+use Prim.Native.Nat.{ℕ, suc, _-_, _*_, _/_, _≤_, _<_}
 use native.Mathlib.Omega.{arith}
 use lib.Dec.{T, leb}
 use lib.ListN.{length}
 use borrow.Author.Tests.{leb-true, leb-false}
 use Rattle.model.specs.Prelude.{Range, Space}
 use Rattle.model.specs.Rows.{choose}
-use Rattle.model.specs.Ranges.{RangeList, ranges, listWritten, rangeEnd, rangeTests, listTests, sameRange, insertRange, removeRange}
+use Rattle.model.specs.Ranges.{RangeList, listWritten, rangeEnd, rangeTests, listTests, sameRange, insertRange, removeRange}
 use Rattle.model.specs.Exactly.{Each, _∈_, Ordered, ShareByte, RangeRules, ListRules}
 use Rattle.model.proofs.Actions.{each-mem}
 use Rattle.model.proofs.Tests.{Alls, alls-split, alls-join}

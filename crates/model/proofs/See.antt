@@ -1,18 +1,15 @@
 -- What is seen at an address, mapping by mapping: the one that has the byte or the next one behind it decides, beside
 -- the edges of sparse ranges.
 -- Assumes nothing.
-use mathlib.Core.Path.{_≡_, refl, sym, ap, ap₂, subst, _∙_}
+use mathlib.Core.Path.{_≡_, refl, sym, ap, ap₂, _∙_}
 use mathlib.Core.Logic.{_⊎_, inl, inr}
-use mathlib.Core.Bool.{Bool, true, false}
 use mathlib.Core.List.{List, [], _∷_, List·Memᴰ·head, List·Memᴰ·tail, List·Memᴰ·not-nil}
 use Prim.Native.Nat.{ℕ, _+_, _-_, _≤_, _<_, min}
 use native.Mathlib.Omega.{arith}
-use lib.Dec.{ltb}
 use borrow.Author.Tests.{lt-ltb, le-ltb}
 use Rattle.model.specs.Prelude.{Range, Space, Mapping, Shown, Nothing, Object, Seen}
-use Rattle.model.specs.Rows.{choose}
 use Rattle.model.specs.Rules.{end}
-use Rattle.model.specs.Ranges.{rangeEnd, bare, nearer, nextEdge}
+use Rattle.model.specs.Ranges.{bare, nearer, nextEdge}
 use Rattle.model.specs.Cut.{insideTests, translate, runEnd, inSpaceTests, bytesTo, see}
 use Rattle.model.specs.Exactly.{_∈_, Each, Ascends, MappingRules, TableRules, RangeRules}
 use Rattle.model.specs.Lookups.{Has, Free, InSpace, nothing}
@@ -58,18 +55,18 @@ module _ (s : Space) (x : ℕ) where
   bytes-outside : (InSpace s x → ⊥) → (to : ℕ) → bytesTo s to x ≡ 0
   bytes-outside n to = rw (all-false (inSpaceTests s x) (λ t. n (omega tests)))
 
-abbrev pub shows : Shown → ℕ → Seen
-shows v n = record { shown = v; bytes = n }
+abbrev pub sight : Shown → ℕ → Seen
+sight v n = record { shown = v; bytes = n }
 
 abbrev pub bytes-of : Mapping → ℕ → Seen
-bytes-of m x = shows (Object (m .object) (m .offset + (x - m .address))) (end m - x)
+bytes-of m x = sight (Object (m .object) (m .offset + (x - m .address))) (end m - x)
 
 -- ── a mapping in front of others ──
 
 module _ (s : Space) (ys : List Range) (m : Mapping) (ms : List Mapping) (x : ℕ) where
   -- it ends at or before x: the others decide
   pub see-past : end m ≤ x → see s ys (m ∷ ms) x ≡ see s ys ms x
-  see-past h = ap₂ shows (translate-past (bare ys x) m ms x (λ i. omega arith)) (ap (λ (e : ℕ). bytesTo s e x) (runEnd-past (nextEdge (top s) ys x) m ms x h))
+  see-past h = ap₂ sight (translate-past (bare ys x) m ms x (λ i. omega arith)) (ap (λ (e : ℕ). bytesTo s e x) (runEnd-past (nextEdge (top s) ys x) m ms x h))
 
   -- it ends behind x, and the others start at its end or behind it: it decides alone
   pub see-front : Each (λ n. end m ≤ n .address) ms → x < end m → see s ys (m ∷ ms) x ≡ see s ys (m ∷ []) x
@@ -79,21 +76,21 @@ module _ (s : Space) (ys : List Range) (m : Mapping) (ms : List Mapping) (x : �
       free n i b = omega (arith, each-mem (λ n. end m ≤ n .address) ms n a i)
 
       go : (off : Shown) (to : ℕ) → (m .address ≤ x) ⊎ (x < m .address)
-          → shows (translate off (m ∷ ms) x) (bytesTo s (runEnd to (m ∷ ms) x) x) ≡ shows (translate off (m ∷ []) x) (bytesTo s (runEnd to (m ∷ []) x) x)
+          → sight (translate off (m ∷ ms) x) (bytesTo s (runEnd to (m ∷ ms) x) x) ≡ sight (translate off (m ∷ []) x) (bytesTo s (runEnd to (m ∷ []) x) x)
       go off to (inl l) =
-          ap₂ shows (translate-here off m ms x (l, h) ∙ sym (translate-here off m [] x (l, h)))
+          ap₂ sight (translate-here off m ms x (l, h) ∙ sym (translate-here off m [] x (l, h)))
           (ap (λ (e : ℕ). bytesTo s e x) (runEnd-here to m ms x (l, h) ∙ sym (runEnd-here to m [] x (l, h))))
       go off to (inr l) =
           let e : runEnd to (m ∷ ms) x ≡ runEnd to (m ∷ []) x =
           omega (arith, runEnd-before to m ms x l, runEnd-before to m [] x l, runEnd-none to x, runEnd-behind to (end m) x ms h a) in
           let none : translate off [] x ≡ off = hides-all off [] x (λ n i. absurd (List·Memᴰ·not-nil i)) in
           let past : (ns : List Mapping) → translate off (m ∷ ns) x ≡ translate off ns x = λ ns. translate-past off m ns x (λ i. omega arith) in
-          ap₂ shows (past ms ∙ hides-all off ms x free ∙ sym (past [] ∙ none)) (ap (λ (e : ℕ). bytesTo s e x) e)
+          ap₂ sight (past ms ∙ hides-all off ms x free ∙ sym (past [] ∙ none)) (ap (λ (e : ℕ). bytesTo s e x) e)
 
   -- x inside it
   pub see-inside : InSpace s x → Has m x → see s ys (m ∷ ms) x ≡ bytes-of m x
   see-inside i b =
-      ap₂ shows (translate-here (bare ys x) m ms x b)
+      ap₂ sight (translate-here (bare ys x) m ms x b)
       (bytes-inside s x i (runEnd (nextEdge (top s) ys x) (m ∷ ms) x) ∙ ap (λ (e : ℕ). e - x) (runEnd-here (nextEdge (top s) ys x) m ms x b))
 
 -- ── no ranges ──
@@ -112,7 +109,7 @@ module _ (s : Space) (m : Mapping) (ms : List Mapping) (x : ℕ) (a : Each (λ n
   unfolding bare nextEdge
   see-before i k =
       let e : runEnd (top s) (m ∷ ms) x ≡ m .address = omega (arith, runEnd-before (top s) m ms x h, runEnd-behind (top s) (end m) x ms (omega arith) a) in
-      ap₂ shows (hides-all Nothing (m ∷ ms) x free-before) (bytes-inside s x i (runEnd (top s) (m ∷ ms) x) ∙ ap (λ (e : ℕ). e - x) e)
+      ap₂ sight (hides-all Nothing (m ∷ ms) x free-before) (bytes-inside s x i (runEnd (top s) (m ∷ ms) x) ∙ ap (λ (e : ℕ). e - x) e)
 
 -- ── mappings in order ──
 
@@ -147,8 +144,8 @@ abbrev pub offEnd : Space → List Range → List Mapping → ℕ → ℕ
 offEnd s ys ms x = runEnd (nextEdge (top s) ys x) ms x
 
 pub see-free : (s : Space) (ys : List Range) (ms : List Mapping) (x : ℕ) → InSpace s x → Free ms x
-    → see s ys ms x ≡ shows (bare ys x) (offEnd s ys ms x - x)
-see-free s ys ms x i f = ap₂ shows (hides-all (bare ys x) ms x f) (bytes-inside s x i (offEnd s ys ms x))
+    → see s ys ms x ≡ sight (bare ys x) (offEnd s ys ms x - x)
+see-free s ys ms x i f = ap₂ sight (hides-all (bare ys x) ms x f) (bytes-inside s x i (offEnd s ys ms x))
 
 -- ── outside the space ──
 
@@ -167,7 +164,7 @@ pub see-outside : (s : Space) (ys : List Range) (ms : List Mapping) → Each (Ra
     → see s ys ms x ≡ nothing 0
 see-outside s ys ms q r x n =
     let free : Free ms x = λ m i b. let k = each-mem (MappingRules s) ms m (r .0) i .within in n (omega arith, omega arith) in
-    ap₂ shows (hides-all (bare ys x) ms x free ∙ bare-outside s ys q x n) (bytes-outside s x n _)
+    ap₂ sight (hides-all (bare ys x) ms x free ∙ bare-outside s ys q x n) (bytes-outside s x n _)
 
 pub rest-free : {m : Mapping} {ms : List Mapping} {x : ℕ} → Free (m ∷ ms) x → Free ms x
 rest-free f n i = f n (List·Memᴰ·tail i)

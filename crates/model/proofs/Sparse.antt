@@ -2,16 +2,16 @@
 -- changes.
 -- Assumes nothing.
 use mathlib.Core.Path.{_≡_, refl, sym, ap, subst, _∙_}
-use mathlib.Core.Logic.{_⊎_, _↔_, inl, inr}
-use mathlib.Core.List.{List, [], _∷_}
-use Prim.Native.Nat.{ℕ, suc, _+_, _/_, _≤_, _<_}
+use mathlib.Core.Logic.{_⊎_, _↔_, inr}
+use mathlib.Core.List.{List, []}
+use Prim.Native.Nat.{ℕ, suc, _+_, _/_, _≤_}
 use native.Mathlib.Omega.{arith}
 use lib.ListN.{length}
 use Rattle.model.specs.Prelude.{Range, Space, Mapping, Request, Nothing, Sparse, Grant}
 use Rattle.model.specs.Rows.{Reply, refused, answered}
 use Rattle.model.specs.Table.{mappings}
 use Rattle.model.specs.Ranges.{ranges, listTests, insertRange, removeRange}
-use Rattle.model.specs.Calls.{Asking, asked, Lent, lentRows, Purpose, cuts, adds, removes, purpose, rangeOf, lastRows, listGrant, grantFor, Outcome, cut, relisted, outcomeFor, bind, rangesCountAfter, lentAfter, seeIn, lookup}
+use Rattle.model.specs.Calls.{Asking, asked, Lent, lentRows, Purpose, adds, removes, purpose, rangeOf, lastRows, listGrant, grantFor, Outcome, cut, relisted, outcomeFor, bind, rangesCountAfter, lentAfter, seeIn, lookup}
 use Rattle.model.specs.Exactly.{_∈_, RangeRules, ListRules, TableRules, Unflagged}
 use Rattle.model.specs.Grants.{offMappings, shows}
 use Rattle.model.specs.Lookups.{Has, Free, InRange, NoRange}

@@ -62,7 +62,7 @@ abbrev pub recordRow : Asking → Row
 recordRow (numbers op address size object offset) = row 12 []
 recordRow (bytes bs) = row 12 (eqb (length bs) recordBytes ∷ [])
 
--- 12, 13, 14, or the request in a record, where a flag is served
+-- 12, 13, 14, or the request in a record, with the flag that is served
 unfoldable pub recordRows : ℕ → List ℕ → List Row
 recordRows served bs = recordRow (bytes bs) ∷ formRows served (requestOf bs)
 

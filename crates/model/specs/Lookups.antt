@@ -49,6 +49,8 @@ pub record Tells (s : Space) (ys : List Range) (ms : List Mapping) (x : ℕ) (v 
       → v ≡ record { shown = Sparse; bytes = e - x }
   pub bare : InSpace s x → Free ms x → NoRange ys x → (e : ℕ) → Next s ys ms x e → v ≡ nothing (e - x)
   pub outside : (InSpace s x → ⊥) → v ≡ nothing 0
+  -- inside the space there is a next edge, so that these are all cases
+  pub next : InSpace s x → (e : ℕ) × Next s ys ms x e
 
 -- what the byte address y bytes on shows, where the answer goes on in the same way
 abbrev pub along : ℕ → Shown → Shown
@@ -75,8 +77,6 @@ pub record GoesOn (s : Space) (l : Lent) (x : ℕ) (v : Seen) : Type 0 where
   pub stops : InSpace s x
       → (x + v .bytes ≡ s .start + s .size) ⊎ (((m : Mapping) × m ∈ mappings (l .table) × Parts m x (x + v .bytes))
       ⊎ ((y : Range) × y ∈ ranges (l .ranges) × RangeParts y x (x + v .bytes)))
-  -- and inside the space there is a next edge, so that the cases above are all there are
-  pub next : InSpace s x → (e : ℕ) × Next s (ranges (l .ranges)) (mappings (l .table)) x e
 
 abbrev pub Lookup : Type 0
 Lookup = (s : Space) (l : Lent) (x : ℕ) (v : Seen) → lookup s l x ≡ answered v

@@ -107,8 +107,8 @@ objectRow r = row 9 (objectTests (r .op + r .flags) r)
 abbrev pub offsetRow : Request → Row
 offsetRow r = row 10 (offsetTests (r .op) r)
 
--- the rows of a request, in their order: its form, which comes before everything else, where a flag is served; what it
--- asks of a space
+-- the rows of a request, in their order: its form, which comes before everything else, with the flag that is served;
+-- what it asks of a space
 unfoldable pub formRows : ℕ → Request → List Row
 formRows served r = opRow r ∷ flagsRow served r ∷ []
 

@@ -14,7 +14,7 @@ use Rattle.model.proofs.Exactly.{exactly}
 use Rattle.program.specs.Prelude.{Request, Seen, Grant}
 use Rattle.program.specs.Text.{ascii}
 use Rattle.program.specs.Script.{hasMark, recordAt, recordSize, State, granted, shows, refusal, otherMark, cut, toldBy, bindIn, requestIn, stepOn, step, lines, operationsFor, operationsIn, run, output}
-use Rattle.program.specs.Claims.{Fronts, Takes, InOrder, Lists, RunsInOrder, DoesCalls}
+use Rattle.program.specs.Claims.{Fronts, Takes, InOrder, HandsOver, RunsInOrder, DoesCalls}
 use Rattle.program.specs.declared.ScriptRecord.{ScriptRecord}
 use Rattle.program.specs.declared.ScriptRecord.the-variants.{SetSpace, Bind, LookUp, OtherMark, Cut, End}
 use Rattle.program.proofs.Lines.{line-texts}
@@ -92,8 +92,8 @@ none-flagged : (n op : ℕ) (r : Request) (l : Lent) → n ≡ 256 → operation
 none-flagged n zero r l e = ap (λ (f : ℕ). operationsFor (purposeFor f zero) r l) e
 none-flagged n (suc k) r l e = ap (λ (f : ℕ). operationsFor (purposeFor f (suc k)) r l) e
 
-lists : (st : State) (bs : List ℕ) → Lists st bs
-lists st bs =
+hands-over : (st : State) (bs : List ℕ) → HandsOver st bs
+hands-over st bs =
     let r : Request = requestOf (requestIn bs) in
     record {
       plain = λ e. ap (λ (f : ℕ). operationsFor (purposeFor f (r .op)) r (st .lent)) e;
@@ -102,7 +102,7 @@ lists st bs =
 
 pub runs-in-order : RunsInOrder
 unfolding output
-runs-in-order = record { from = λ bs. refl; on = in-order; listed = lists }
+runs-in-order = record { from = λ bs. refl; on = in-order; hands-over = hands-over }
 
 -- ── what a record does ──
 

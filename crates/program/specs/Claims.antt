@@ -69,7 +69,7 @@ pub record InOrder (st : State) (p : ℕ) (bs : List ℕ) : Type 0 where
   pub stops-end : recordAt bs ≡ End → run (length bs) st p bs ≡ []
 
 -- those operations: the request's own; none for one with the sparse flag
-pub record Lists (st : State) (bs : List ℕ) : Type 0 where
+pub record HandsOver (st : State) (bs : List ℕ) : Type 0 where
   pub plain : requestOf (take 40 (drop 2 bs)) .flags ≡ 0 → operationsIn st bs ≡ operations (requestOf (take 40 (drop 2 bs))) (mappings (st .lent .table))
   pub flagged : requestOf (take 40 (drop 2 bs)) .flags ≡ 256 → operationsIn st bs ≡ []
 
@@ -82,7 +82,7 @@ pub record RunsInOrder : Type 0 where
     operations = replicate 3598 0;
   }) 0 bs
   pub on : (st : State) (p : ℕ) (bs : List ℕ) → InOrder st p bs
-  pub listed : (st : State) (bs : List ℕ) → Lists st bs
+  pub hands-over : (st : State) (bs : List ℕ) → HandsOver st bs
 
 -- `RQ` does what the call by record does, on the 40 bytes behind the mark; `LK` what a look-up does, and changes
 -- nothing

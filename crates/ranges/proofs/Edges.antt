@@ -17,7 +17,7 @@ use Rattle.model.proofs.Tests.{tests, all-true, all-false}
 use Rattle.model.proofs.Actions.{each-map}
 use Rattle.model.proofs.Ranges.{length-ranges}
 use Rattle.ranges.specs.Lists.{rangeAt, firstBehind, ValidList}
-use Rattle.ranges.specs.Beside.{offMappings, besideFor, beside}
+use Rattle.ranges.specs.Beside.{besideOff, besideFor, beside}
 use Rattle.ranges.proofs.Places.{Spaced, at-place, valid-spaced}
 use Rattle.ranges.proofs.First.{First, none, here, later, first-is, first-ends}
 
@@ -107,8 +107,8 @@ module _ (x to : ℕ) where
 abbrev seen : Shown → ℕ → Seen
 seen v n = record { shown = v; bytes = n }
 
-off-is : (ys : List Range) (x n : ℕ) {v : Shown} {e : ℕ} → Off x (x + n) ys v e → seen v (e - x) ≡ offMappings ys x n
-unfolding offMappings
+off-is : (ys : List Range) (x n : ℕ) {v : Shown} {e : ℕ} → Off x (x + n) ys v e → seen v (e - x) ≡ besideOff ys x n
+unfolding besideOff
 off-is ys x n o = sym (ap₂ seen (o .0) (ap (λ (e : ℕ). e - x) (o .1)))
 
 module _ {ws : List ℕ} {count : ℕ} (v : ValidList ws count) (x n : ℕ) {i : ℕ} (e : i ≡ firstBehind x (rangesIn count ws)) where
@@ -118,7 +118,7 @@ module _ {ws : List ℕ} {count : ℕ} (v : ValidList ws count) (x n : ℕ) {i :
   first : First x ys i
   first = first-is x ys e
 
-  pub off-end : i ≡ count → nothing n ≡ offMappings ys x n
+  pub off-end : i ≡ count → nothing n ≡ besideOff ys x n
   off-end q =
       let m : x + n - x ≡ n = omega arith in
       rw m at (off-is ys x n (off-none x (x + n) ys i first (q ∙ sym (length-ranges count ws))))
@@ -133,13 +133,13 @@ module _ {ws : List ℕ} {count : ℕ} (v : ValidList ws count) (x n : ℕ) {i :
     pub ends-behind : x < rangeEnd y
     ends-behind = subst (λ (y : Range). x < rangeEnd y) there (first-ends x ys i y first inside)
 
-    pub off-next : x < y .start → {b : ℕ} → b ≡ min n (y .start - x) → seen Nothing b ≡ offMappings ys x n
+    pub off-next : x < y .start → {b : ℕ} → b ≡ min n (y .start - x) → seen Nothing b ≡ besideOff ys x n
     off-next h b =
         let m : min (y .start) (x + n) - x ≡ min n (y .start - x) = omega arith in
         let o : Off x (x + n) ys Nothing (min (y .start) (x + n)) = rw there at (off-before x (x + n) ys i y first (valid-spaced v) inside (rw there h)) in
         ap (seen Nothing) (b ∙ sym m) ∙ off-is ys x n o
 
-    pub off-here : y .start ≤ x → {b : ℕ} → b ≡ min n (rangeEnd y - x) → seen Sparse b ≡ offMappings ys x n
+    pub off-here : y .start ≤ x → {b : ℕ} → b ≡ min n (rangeEnd y - x) → seen Sparse b ≡ besideOff ys x n
     off-here h b =
         let m : min (rangeEnd y) (x + n) - x ≡ min n (rangeEnd y - x) = omega (arith, ends-behind) in
         let o : Off x (x + n) ys Sparse (min (rangeEnd y) (x + n)) = rw there at (off-in x (x + n) ys i y first (valid-spaced v) inside (rw there h)) in
@@ -147,7 +147,7 @@ module _ {ws : List ℕ} {count : ℕ} (v : ValidList ws count) (x n : ℕ) {i :
 
 -- an empty list changes nothing
 pub beside-none : (ws : List ℕ) (count x : ℕ) (v : Seen) → count ≡ 0 → v ≡ beside (rangesIn count ws) x v
-unfolding beside offMappings rangesIn bare nextEdge
+unfolding beside besideOff rangesIn bare nextEdge
 beside-none ws count x v e = rw e (go (v .shown) refl)
   where
     go : (s : Shown) → v .shown ≡ s → v ≡ besideFor s [] x v

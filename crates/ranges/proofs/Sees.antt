@@ -17,7 +17,7 @@ use Rattle.model.specs.Rows.{all, choose}
 use Rattle.model.specs.Ranges.{rangeEnd, bare, nearer, nextEdge}
 use Rattle.model.specs.Cut.{insideTests, translate, runEnd, inSpaceTests, bytesTo, see}
 use Rattle.model.proofs.Tests.{tests, all-facts}
-use Rattle.ranges.specs.Beside.{beside, offMappings}
+use Rattle.ranges.specs.Beside.{beside, besideOff}
 
 -- ── the nearest of several ──
 
@@ -96,7 +96,7 @@ bytes-beside s ys x e h = go (all (inSpaceTests s x)) refl
     go false t = omega (arith, edge-most (x + 0) x ys)
 
 pub beside-sees : (s : Space) (ys : List Range) (ms : List Mapping) (x : ℕ) → beside ys x (see s [] ms x) ≡ see s ys ms x
-unfolding beside offMappings bare nextEdge
+unfolding beside besideOff bare nextEdge
 beside-sees s ys ms x = go (look ms x)
   where
     go : Look ms x → beside ys x (see s [] ms x) ≡ see s ys ms x

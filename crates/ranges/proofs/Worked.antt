@@ -11,7 +11,7 @@ use Rattle.model.specs.Rows.{refused, answered, decide}
 use Rattle.model.specs.Ranges.{RangeList, rangesIn, bare, nextEdge, insertRange, listed, removeRange}
 use Rattle.ranges.specs.Lists.{lentList}
 use Rattle.ranges.specs.Changes.{ListOutcome, added, removed}
-use Rattle.ranges.specs.Beside.{offMappings, beside}
+use Rattle.ranges.specs.Beside.{besideOff, beside}
 
 abbrev range : ℕ → ℕ → Range
 range a n = record { start = a; size = n }
@@ -59,10 +59,10 @@ seen v n = record { shown = v; bytes = n }
 -- beside [10, 15) and [15, 20), at five addresses, 8 bytes before the next mapping
 sights : map (λ x. beside (range 10 5 ∷ range 15 5 ∷ []) x (seen Nothing 8)) (1 ∷ 3 ∷ 10 ∷ 14 ∷ 20 ∷ [])
     ≡ seen Nothing 8 ∷ seen Nothing 7 ∷ seen Sparse 5 ∷ seen Sparse 1 ∷ seen Nothing 8 ∷ []
-unfolding beside offMappings bare nextEdge
+unfolding beside besideOff bare nextEdge
 sights = refl
 
 -- a mapping starts before the range ends; a mapping has the byte
 mapped : map (λ v. beside (range 10 5 ∷ []) 12 v) (seen Nothing 2 ∷ seen (Object 7 0) 9 ∷ []) ≡ seen Sparse 2 ∷ seen (Object 7 0) 9 ∷ []
-unfolding beside offMappings bare nextEdge
+unfolding beside besideOff bare nextEdge
 mapped = refl

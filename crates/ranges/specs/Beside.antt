@@ -9,11 +9,11 @@ use Rattle.model.specs.declared.Shown.the-variants.{Nothing, Sparse, Object}
 use Rattle.model.specs.Ranges.{bare, nextEdge}
 
 -- off all mappings, the next of which or the space's end is n bytes on: sparse or nothing, up to the next edge
-unfoldable pub offMappings : List Range → ℕ → ℕ → Seen
-offMappings ys x n = record { shown = bare ys x; bytes = nextEdge (x + n) ys x - x }
+unfoldable pub besideOff : List Range → ℕ → ℕ → Seen
+besideOff ys x n = record { shown = bare ys x; bytes = nextEdge (x + n) ys x - x }
 
 abbrev pub besideFor : Shown → List Range → ℕ → Seen → Seen
-besideFor Nothing ys x v = offMappings ys x (v .bytes)
+besideFor Nothing ys x v = besideOff ys x (v .bytes)
 besideFor Sparse ys x v = v
 besideFor (Object o f) ys x v = v
 

@@ -20,9 +20,9 @@ abbrev pub outcomeOf : Verdict → List ℕ → ListOutcome
 outcomeOf v ws = record { answer = verdictReply v; words = ws }
 
 -- a refusal changes no word; else these ranges are written, and zeros behind them
-abbrev pub outcomeFor : Reply (Unit {0}) → RangeList → List Range → ListOutcome
-outcomeFor (refused n p) l xs = record { answer = refused n p; words = l .words }
-outcomeFor (answered u) l xs = record { answer = answered u; words = listWritten (length (l .words)) xs }
+abbrev pub listOutcome : Reply (Unit {0}) → RangeList → List Range → ListOutcome
+listOutcome (refused n p) l xs = record { answer = refused n p; words = l .words }
+listOutcome (answered u) l xs = record { answer = answered u; words = listWritten (length (l .words)) xs }
 
 -- it shares a byte with a range; the list is full; no range has exactly that start and size
 abbrev pub overlapRow : Range → RangeList → Row
@@ -43,7 +43,7 @@ takenOut i ys = take i ys ++ drop (i + 1) ys
 
 -- one range more: 19, 11. One less: 20
 unfoldable pub added : Range → RangeList → ListOutcome
-added x l = outcomeFor (verdict (overlapRow x l ∷ fullRow l ∷ [])) l (insertRange x (ranges l))
+added x l = listOutcome (verdict (overlapRow x l ∷ fullRow l ∷ [])) l (insertRange x (ranges l))
 
 unfoldable pub removed : Range → RangeList → ListOutcome
-removed x l = outcomeFor (verdict (absentRow x l ∷ [])) l (removeRange x (ranges l))
+removed x l = listOutcome (verdict (absentRow x l ∷ [])) l (removeRange x (ranges l))

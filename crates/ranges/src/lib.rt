@@ -19,7 +19,7 @@ ghost use Rattle.words.specs.Words.{ZeroFrom};
 ghost use Rattle.table.specs.Halving.{binaryDigits, halving};
 ghost use Rattle.ranges.specs.Lists.{lentList, rangeAt, asMapping, firstBehind, ValidList};
 ghost use Rattle.ranges.specs.Changes.{outcomeOf, overlapRow, putIn, takenOut, added, removed};
-ghost use Rattle.ranges.specs.Beside.{offMappings, beside};
+ghost use Rattle.ranges.specs.Beside.{besideOff, beside};
 
 // Document 02: a list is of even length up to so many words.
 const MOST_WORDS: usize = 128;
@@ -191,7 +191,7 @@ pub fn remove(list: &mut [u64], count: usize, range: Range) -> Verdict
 // ends behind `x` has it or is the next one. Distances are compared, and no sum of them is made.
 fn off_mappings(list: &[u64], count: usize, x: u64, bytes: u64) -> Seen
     requires { ⌜ ValidList (now list) count ⌝ }
-    ensures { λ v. ⌜ v ≡ offMappings (rangesIn count (now (list .entry))) x bytes ⌝ }
+    ensures { λ v. ⌜ v ≡ besideOff (rangesIn count (now (list .entry))) x bytes ⌝ }
 {
     let i = first_ending_behind(list, count, x);
     if i == count {

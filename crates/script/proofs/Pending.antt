@@ -72,7 +72,7 @@ module _ (st : State) (bs : List ℕ) (g : Grant) where
       let r = replay-claim (st .space) (st .lent) (st .operations) (bytes (requestIn bs)) g (λ f. omega (arith, z, f)) e in
       let w = written-from [] 0 ops (drop (14 * length ops) (st .operations)) refl (own-operations request (mappings (st .lent .table))) in
       record {
-        lines = rw (runs-in-order .listed st bs .plain z, r .words .0, r .number) (w .0);
+        lines = rw (runs-in-order .hands-over st bs .plain z, r .words .0, r .number) (w .0);
         there = record {
           within = omega (arith, operations-words ops, r .number, r .words .1, simp (length-append, length-drop) at (ap length (r .words .0)));
           known = rw (r .words .0, r .number) (w .1);
@@ -85,7 +85,7 @@ module _ (st : State) (bs : List ℕ) (g : Grant) where
   wrote-flagged e z =
       let k : g .operations ≡ 0 = sparse-ranges .flagged (st .space) (st .lent) (st .operations) (bytes (requestIn bs)) g e z .operations .1 in
       record {
-        lines = rw (runs-in-order .listed st bs .flagged z, k);
+        lines = rw (runs-in-order .hands-over st bs .flagged z, k);
         there = record { within = omega (arith, k); known = rw k tt };
       }
 

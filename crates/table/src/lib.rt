@@ -168,8 +168,8 @@ fn in_space(s: Space, x: u64) -> bool
     (s.start <= x) & (x < s.start + s.size)
 }
 
-// What a look-up sees at the byte address `x` in the table alone, beside no ranges. One search: no mapping but the first that ends behind `x` can have it or
-// be the next one.
+// What a look-up sees at the byte address `x` in the table alone, beside no ranges. One search: no mapping but the first
+// that ends behind `x` can have it or be the next one.
 pub fn see(s: Space, t: &[u64], count: usize, x: u64) -> Seen
     requires { ⌜ ValidIn s (now t) count ⌝ }
     ensures { λ v. ⌜ v ≡ see s [] (mappingsIn count (now (t .entry))) x ⌝ }

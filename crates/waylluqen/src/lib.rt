@@ -38,8 +38,8 @@ pub struct Translation {
     pub bytes: u64,
 }
 
-// What a map or unmap answers C. Refusal 0: granted. `count` and `ranges` are the counts of the table and of the list afterwards. On a refusal
-// there is no operation, and the counts are those that came in.
+// What a map or unmap answers C. Refusal 0: granted. `count` and `ranges` are the counts of the table and of the list
+// afterwards. On a refusal there is no operation, and the counts are those that came in.
 #[repr(C)]
 pub struct AnswerWords {
     pub refusal: u64,
