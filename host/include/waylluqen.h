@@ -295,8 +295,8 @@ enum waylluqen_range_word {
  * A grant keeps them so: a list that only these calls write, with the count that they answer, is
  * never refused.
  *
- * A driver without sparse ranges lends no words, with count 0. Any pointer will do for that if it is
- * aligned and not NULL, the table's too.
+ * A driver without sparse ranges lends no words, with count 0. Any pointer will do for that if it
+ * is aligned and not NULL, the table's too.
  */
 #define WAYLLUQEN_RANGE_LIST_WORDS(capacity) ((size_t)(capacity) * WAYLLUQEN_RANGE_WORDS)
 
