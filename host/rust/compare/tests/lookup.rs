@@ -3,8 +3,9 @@
 use std::ops::Range;
 use std::thread;
 use waylluqen::View;
-use waylluqen_compare::calls::{Caller, Way};
+use waylluqen_compare::calls::{model_look, Caller, Way};
 use waylluqen_compare::library::{self, ByNumber, Looked};
+use waylluqen_compare::lists::{self, good_list, some_ranges, Faults, List};
 use waylluqen_compare::numbers::{
     disturb_space, edge_spaces, edges, other64, space_of, HALF, LIMIT,
 };
@@ -15,10 +16,10 @@ use waylluqen_compare::tables::{
     Good, Table, DAMAGES, LONGEST_TABLE, MANY_MAPPINGS, MOST_WORDS,
 };
 use waylluqen_model::random::Random;
-use waylluqen_model::{lookup, Refused, Space, MAPPING_WORDS, MOST_MAPPINGS, PAGE};
+use waylluqen_model::{lookup, Refused, SparseRange, MAPPING_WORDS, MOST_MAPPINGS, PAGE};
 
 /// The refusals that a look-up has.
-const NUMBERS: [usize; 5] = [1, 2, 4, 5, 17];
+const NUMBERS: [usize; 6] = [1, 2, 4, 5, 17, 18];
 
 /// Compares, and counts how often each answer came.
 struct Tally {
@@ -26,6 +27,8 @@ struct Tally {
     comparisons: u64,
     sights: Sights,
     refused: ByNumber,
+    /// Lists that were refused.
+    faults: Faults,
     /// Bad mappings that were the first, the last, or between.
     first: u64,
     last: u64,
@@ -41,6 +44,7 @@ impl Tally {
             comparisons: 0,
             sights: Sights::default(),
             refused: ByNumber::default(),
+            faults: Faults::default(),
             first: 0,
             last: 0,
             between: 0,
@@ -49,46 +53,42 @@ impl Tally {
     }
 
     /// Looks up in words and by the types, with other words around.
-    fn compare(&mut self, space: &Space, table: &[u64], count: u64, address: u64) -> Looked {
-        let model = lookup(space, table, count, address);
+    fn compare(&mut self, table: &Table, address: u64) -> Looked {
+        let model = model_look(table, address);
         self.caller.lend(table);
         for way in [Way::Words, Way::Types] {
             self.caller.stir(address);
-            self.caller.look_up(way, space, count, address, model);
+            self.caller.look_up(way, table, address, model);
         }
         self.comparisons += 1;
         match model {
             Ok(seen) => {
-                self.on_most += u64::from(count == MOST_MAPPINGS as u64);
-                self.sights.count(space, table, count, address, seen);
+                self.on_most += u64::from(table.count == MOST_MAPPINGS as u64);
+                self.sights.count(table, address, seen);
             }
-            Err(refused) => self.note_refusal(refused, count),
+            Err(refused) => self.note_refusal(refused, table),
         }
         model
     }
 
-    fn compare_table(&mut self, table: &Table, address: u64) -> Looked {
-        self.compare(&table.space, &table.words, table.count, address)
-    }
-
-    fn note_refusal(&mut self, refused: Refused, count: u64) {
+    fn note_refusal(&mut self, refused: Refused, table: &Table) {
         self.refused[refused.number as usize] += 1;
-        if let Refused { number: 5, place } = refused {
-            match place {
+        match refused {
+            Refused { number: 5, place } => match place {
                 0 => self.first += 1,
-                place if place + 1 == count => self.last += 1,
+                place if place + 1 == table.count => self.last += 1,
                 _ => self.between += 1,
-            }
+            },
+            Refused { number: 18, .. } => self.faults.count(&table.space, &table.list),
+            _ => {}
         }
     }
 
     /// Looks all these addresses up in a full table, or in an empty one that has room for one.
     fn look_at(&mut self, good: &Good, addresses: &[u64]) {
-        let spare = usize::from(good.mappings.is_empty());
-        let (table, count) = (good.words(spare), good.mappings.len() as u64);
+        let table = good.table(usize::from(good.mappings.is_empty()));
         for &address in addresses {
-            self.compare(&good.space, &table, count, address)
-                .expect("a good table");
+            self.compare(&table, address).expect("a good table");
         }
     }
 
@@ -101,15 +101,14 @@ impl Tally {
         places: Range<usize>,
         refused: &mut [u64; DAMAGES.len()],
     ) {
-        let words = good.words(spare);
-        let count = good.mappings.len();
-        let used = count * MAPPING_WORDS;
+        let whole = good.table(spare);
+        let used = good.mappings.len() * MAPPING_WORDS;
         for at in places.start * MAPPING_WORDS..places.end * MAPPING_WORDS {
             for ((_, damage), refused) in DAMAGES.iter().zip(&mut *refused) {
-                let mut table = words.clone();
-                damage(random, &good.space, &mut table[..used], at);
+                let mut table = whole.clone();
+                damage(random, &good.space, &mut table.words[..used], at);
                 let address = any_address(random, good);
-                let answer = self.compare(&good.space, &table, count as u64, address);
+                let answer = self.compare(&table, address);
                 *refused += u64::from(answer.is_err());
             }
         }
@@ -125,6 +124,7 @@ impl Tally {
         for times in [self.first, self.between, self.last] {
             assert!(times >= least, "a kind of place came only {times} times");
         }
+        self.faults.assert_each(least);
     }
 
     /// Every kind of answer from a good table came at least `least` times.
@@ -136,11 +136,18 @@ impl Tally {
 
     /// Seen with `cargo test -- --nocapture`.
     fn print(&self, test: &str) {
-        let [space, length, count, mapping, stale] = NUMBERS.map(|number| self.refused[number]);
+        let refused = NUMBERS.map(|number| format!("{number}: {}", self.refused[number]));
         println!(
-            "{test}: {} comparisons, {:?}, refused 1: {space}, 2: {length}, 4: {count}, \
-             5: {mapping} (first {}, between {}, last {}), 17: {stale}, on most {}",
-            self.comparisons, self.sights, self.first, self.between, self.last, self.on_most
+            "{test}: {} comparisons, {:?}, refused {} (first {}, between {}, last {}), {:?}, \
+             on most {}",
+            self.comparisons,
+            self.sights,
+            refused.join(", "),
+            self.first,
+            self.between,
+            self.last,
+            self.faults,
+            self.on_most
         );
     }
 }
@@ -176,8 +183,11 @@ fn good_tables_and_those_near_them() {
             if random.once_in(16) {
                 make_stale(&mut random, &mut table);
             }
+            if random.once_in(8) {
+                lists::damage(&mut random, &good.space, &mut table.list);
+            }
             let address = any_address(&mut random, &good);
-            tally.compare_table(&table, address).ok();
+            tally.compare(&table, address).ok();
         }
     }
     tally.print("good tables and those near them");
@@ -235,9 +245,11 @@ fn every_boundary_of_the_largest_tables() {
 
 #[test]
 fn neighbours_that_go_on() {
+    let mut random = Random::new(27);
     let mut tally = Tally::new(28);
     for (mappings, pages_each) in [(2, 1), (3, 5), (100, 2), (512, 1), (4096, 3)] {
-        let good = cut_up(mappings, pages_each);
+        let mut good = cut_up(mappings, pages_each);
+        good.list = good_list(&mut random, &good.space, &good.mappings);
         let before = tally.sights.continued;
         tally.look_at(&good, &boundaries(&good));
         // From the first byte, the last byte and the middle of each but the last.
@@ -305,12 +317,13 @@ fn lengths_and_counts() {
                 let address = any_address(&mut random, &good);
                 let mut table = Table {
                     space,
+                    list: good.list.clone(),
                     words: words[..length].to_vec(),
                     count,
                 };
-                tally.compare_table(&table, address).ok();
+                tally.compare(&table, address).ok();
                 table.behind().fill(0);
-                tally.compare_table(&table, address).ok();
+                tally.compare(&table, address).ok();
             }
         }
     }
@@ -324,7 +337,8 @@ fn lengths_and_counts() {
     // The pointer of a slice that never had memory.
     let [space, ..] = plain_spaces();
     let refused = waylluqen::Table::empty(&mut []).lookup(library::space(&space), 0);
-    assert_eq!(refused, library::looked(lookup(&space, &[], 0, 0)));
+    let model = lookup(&space, &List::default().lent(), &[], 0, 0);
+    assert_eq!(refused, library::looked(model));
 }
 
 /// Look-ups in one view from several threads, beside each other.
@@ -333,14 +347,17 @@ fn views_of_several_threads() {
     const THREADS: u64 = 4;
     let mut random = Random::new(91);
     for space in plain_spaces() {
-        let good = fill_space(&mut random, space, 100);
-        let (words, count) = (good.words(3), good.mappings.len() as u64);
-        let view = View::new(&words, count);
+        let mut good = fill_space(&mut random, space, 100);
+        let ranges = some_ranges(&mut random, &space, &good.mappings, 10);
+        good.list = List::of(&ranges, 12);
+        let table = good.table(3);
+        let view =
+            View::new(&table.words, table.count).with_ranges(&table.list.words, table.list.count);
         let look_up = |view: View<'_>, seed: u64| {
             let mut random = Random::new(seed);
             for _ in 0..10_000 {
                 let address = any_address(&mut random, &good);
-                let model = lookup(&space, &words, count, address);
+                let model = model_look(&table, address);
                 let answer = view.lookup(library::space(&space), address);
                 assert_eq!(answer, library::looked(model), "at {address:#x}");
             }
@@ -359,13 +376,27 @@ fn spaces_at_edges() {
     let mut tally = Tally::new(52);
     let space = space_of([4 * PAGE, 4 * PAGE, 6 * PAGE, PAGE]);
     let good = fill_space(&mut random, space, 2);
-    let table = good.words(1);
+    // Mappings, and ranges where there are none: in some spaces they are no good.
+    let range = |page: u64| SparseRange {
+        start: page * PAGE,
+        size: PAGE,
+    };
+    let ranges = Good {
+        space,
+        list: List::of(&[range(4), range(5), range(7)], 3),
+        mappings: Vec::new(),
+    };
+    let mut tables = [good.table(1), ranges.table(1)];
     for space in edge_spaces() {
-        let address = any_address(&mut random, &good);
-        tally.compare(&space, &table, 2, address).ok();
+        for table in &mut tables {
+            table.space = space;
+            let address = any_address(&mut random, &good);
+            tally.compare(table, address).ok();
+        }
     }
     tally.print("spaces at edges");
     assert!(tally.refused[1] >= 1000 && tally.refused[5] >= 100);
+    assert!(tally.refused[18] >= 100, "only {} lists", tally.refused[18]);
     assert!(tally.sights.objects > 0 && tally.sights.nothing() > 0);
 }
 
@@ -377,10 +408,17 @@ fn any_words() {
     for _ in 0..INPUTS {
         let table = any_table(&mut random);
         let address = other64(&mut random, &table.space, table.space.start);
-        tally.compare_table(&table, address).ok();
+        tally.compare(&table, address).ok();
     }
     tally.print("any words");
-    for (number, least) in [(1, 1000), (2, 1000), (4, 1000), (5, 1000), (17, 500)] {
+    for (number, least) in [
+        (1, 1000),
+        (2, 1000),
+        (4, 1000),
+        (5, 1000),
+        (17, 500),
+        (18, 500),
+    ] {
         assert!(tally.refused[number] >= least, "{number} came too rarely");
     }
     assert!(tally.sights.nothing() >= 1000);
@@ -389,6 +427,7 @@ fn any_words() {
 /// Every address, size, object and offset at an edge, together.
 #[test]
 fn one_mapping_at_edges() {
+    let mut random = Random::new(70);
     let mut tally = Tally::new(71);
     for space in small_spaces() {
         let end = space.start + space.size;
@@ -413,12 +452,18 @@ fn one_mapping_at_edges() {
             u64::MAX,
         ];
         let offsets = edges(&[0, LIMIT - 2 * PAGE, LIMIT - space.size, LIMIT]);
+        let mut table = Table {
+            space,
+            list: good_list(&mut random, &space, &[]),
+            words: Vec::new(),
+            count: 1,
+        };
         for &address in &addresses {
             for &size in &sizes {
                 for &object in &objects {
                     for &offset in &offsets {
-                        let table = [address, size, object, offset];
-                        tally.compare(&space, &table, 1, address).ok();
+                        table.words = vec![address, size, object, offset];
+                        tally.compare(&table, address).ok();
                     }
                 }
             }
@@ -432,6 +477,7 @@ fn one_mapping_at_edges() {
 #[test]
 fn two_mappings_in_a_few_pages() {
     const PAGES: u64 = 14;
+    let mut random = Random::new(80);
     let mut tally = Tally::new(81);
     for space in small_spaces() {
         let from = space.start.saturating_sub(PAGE);
@@ -441,9 +487,14 @@ fn two_mappings_in_a_few_pages() {
             .collect();
         for one in &ranges {
             for other in &ranges {
-                let table = [one[0], one[1], 7, 0, other[0], other[1], 8, PAGE];
+                let table = Table {
+                    space,
+                    list: good_list(&mut random, &space, &[]),
+                    words: vec![one[0], one[1], 7, 0, other[0], other[1], 8, PAGE],
+                    count: 2,
+                };
                 for address in [other[0], other[0] + other[1]] {
-                    tally.compare(&space, &table, 2, address).ok();
+                    tally.compare(&table, address).ok();
                 }
             }
         }

@@ -1,10 +1,12 @@
 //! A request in pieces: asked one by one, in any order and as often as one likes, they end where
-//! the uncut request ends, if each was granted at least once.
+//! the uncut request ends, if each was granted at least once. The list of sparse ranges is lent the
+//! same throughout, and stays so.
 
-use waylluqen::Refusal;
+use waylluqen::{Ranges, Refusal};
 use waylluqen_compare::calls::{model_answer, Asking};
 use waylluqen_compare::library;
-use waylluqen_compare::near::{near_record, widen};
+use waylluqen_compare::lists;
+use waylluqen_compare::near::{near_plain_record, widen};
 use waylluqen_compare::numbers::{disturb_space, other64};
 use waylluqen_compare::requests::disturb_record;
 use waylluqen_compare::tables::{
@@ -12,16 +14,15 @@ use waylluqen_compare::tables::{
 };
 use waylluqen_model::bind::least_operation_words;
 use waylluqen_model::random::Random;
-use waylluqen_model::{Mapping, Record, Request, MAP, MAPPING_WORDS, PAGE};
+use waylluqen_model::{Mapping, Record, Request, SparseRange, MAP, MAPPING_WORDS, PAGE};
 
 /// How many operations a request left, or why it was refused.
 type Answer = Result<usize, Refusal>;
 
-/// What is asked for: numbers, and the flags and pad that a record has besides.
+/// What is asked for: numbers with flags, and the pad that a record has besides.
 #[derive(Clone, Copy, Debug, PartialEq)]
 struct Asked {
     request: Request,
-    flags: u32,
     pad: u32,
 }
 
@@ -30,7 +31,7 @@ impl Asked {
     fn record(&self) -> Option<Record> {
         Some(Record {
             op: self.request.op.try_into().ok()?,
-            flags: self.flags,
+            flags: self.request.flags.try_into().ok()?,
             handle: self.request.object.try_into().ok()?,
             pad: self.pad,
             addr: self.request.address,
@@ -78,7 +79,7 @@ impl Series {
     fn ask(&mut self, random: &mut Random, asked: &Asked) -> Answer {
         self.operations.fill_with(|| random.next_u64());
         let before = (self.table.words.clone(), self.operations.clone());
-        let plain = asked.flags == 0 && asked.pad == 0;
+        let plain = asked.request.flags == 0 && asked.pad == 0;
         let record = asked.record().filter(|_| !plain || random.once_in(2));
         let bytes = record.map(|record| record.encode());
         let asking = match &bytes {
@@ -92,16 +93,20 @@ impl Series {
         answer
     }
 
-    /// Goes on with the count that the library gives, and compares the answer to the model's.
+    /// Goes on with the count that the library gives, and compares the answer to the model's. The
+    /// list stays as it is.
     fn ask_as(&mut self, asking: Asking) -> Answer {
         let model = model_answer(&self.table, self.operations.len(), asking);
         let Table {
             space,
+            list: lent,
             words,
             count,
         } = &mut self.table;
+        let before = lent.clone();
         let space = library::space(space);
-        let mut table = waylluqen::Table::with_count(words, *count);
+        let ranges = Ranges::with_count(&mut lent.words, lent.count);
+        let mut table = waylluqen::Table::with_count(words, *count).with_ranges(ranges);
         let list = &mut self.operations;
         let operations = match asking {
             Asking::Numbers(request) => {
@@ -114,6 +119,8 @@ impl Series {
             }
         };
         *count = table.count();
+        assert_eq!(table.ranges().count(), before.count);
+        assert_eq!(table.ranges().words(), before.words);
         let answer = operations.map(|operations| operations.len());
         let expected = model.map(|grant| grant.operations.len());
         assert_eq!(answer, expected.map_err(library::refusal), "{asking:x?}");
@@ -229,9 +236,12 @@ struct Tally {
     pieces_alone: u64,
     unaligned: u64,
     unaligned_granted: u64,
-    /// Refused uncut and in pieces; those of them for stale words.
+    /// Every one of several pieces was granted, of a range that shares a byte with a sparse one.
+    in_sparse: u64,
+    /// Refused uncut and in pieces; those of them for stale words, and for a bad list.
     refused: u64,
     stale: u64,
+    bad_ranges: u64,
     repeated: u64,
     left_out: u64,
     mixed: u64,
@@ -297,11 +307,15 @@ fn check(random: &mut Random, tally: &mut Tally, start: &Table, asked: &Asked) {
     if uncut_answer.is_ok() {
         assert_eq!(outcome.other_refusal, None, "{asked:x?}");
     }
-    if uncut_answer == Err(Refusal::StaleWords) {
-        let is_stale = |refusal: Refusal| refusal == Refusal::StaleWords;
+    if let Err(lent @ (Refusal::StaleWords | Refusal::BadRanges)) = uncut_answer {
+        let is_same = |refusal: Refusal| refusal == lent;
         let granted = outcome.granted.contains(&true) || outcome.without_room;
-        assert!(!granted && outcome.other_refusal.is_none_or(is_stale));
-        tally.stale += u64::from(outcome.other_refusal.is_some_and(is_stale));
+        assert!(!granted && outcome.other_refusal.is_none_or(is_same));
+        let times = match lent {
+            Refusal::StaleWords => &mut tally.stale,
+            _ => &mut tally.bad_ranges,
+        };
+        *times += u64::from(outcome.other_refusal.is_some_and(is_same));
     }
     if outcome.granted.iter().all(|&granted| granted) {
         assert!(uncut_answer.is_ok(), "{uncut_answer:?}, {asked:x?}");
@@ -316,6 +330,10 @@ fn check(random: &mut Random, tally: &mut Tally, start: &Table, asked: &Asked) {
         };
         assert_eq!((series.table.count, &series.table.words), (count, &words));
     }
+    let all = outcome.granted.iter().all(|&granted| granted) && outcome.granted.len() > 1;
+    let extent = asked.request.extent();
+    let shares = |range: &SparseRange| range.extent().shares_byte_with(&extent);
+    tally.in_sparse += u64::from(all && start.list.ranges().iter().any(shares));
     tally.note(asked, uncut_answer, &outcome, order.len());
     tally.calls += series.by_record + series.by_numbers;
     tally.mixed += u64::from(series.by_record > 0 && series.by_numbers > 0);
@@ -359,8 +377,10 @@ impl Tally {
             pieces_alone,
             unaligned,
             unaligned_granted,
+            in_sparse,
             refused,
             stale,
+            bad_ranges,
             repeated,
             left_out,
             mixed,
@@ -378,6 +398,8 @@ impl Tally {
             ("unaligned, a piece granted", unaligned_granted),
             ("refused", refused),
             ("refused for stale words", stale),
+            ("refused for a bad list", bad_ranges),
+            ("all pieces granted in a sparse range", in_sparse),
             ("repeated", repeated),
             ("left out", left_out),
             ("by numbers and by record", mixed),
@@ -389,13 +411,14 @@ impl Tally {
     }
 }
 
-/// A request near the mappings; some with an unaligned end or offset, or another fault.
+/// A request without the flag near the mappings; some with an unaligned end or offset, or another
+/// fault.
 fn some_request(random: &mut Random, good: &Good) -> Asked {
-    let mut record = near_record(random, good);
+    let mut record = near_plain_record(random, good);
     for _ in 0..4 {
         // One page has no cut.
         if record.range == PAGE {
-            record = near_record(random, good);
+            record = near_plain_record(random, good);
         }
     }
     match random.below(24) {
@@ -410,11 +433,14 @@ fn some_request(random: &mut Random, good: &Good) -> Asked {
     }
     let mut asked = Asked {
         request: record.request(),
-        flags: record.flags,
         pad: record.pad,
     };
     if random.once_in(100) {
         widen(random, &mut asked.request);
+    }
+    // Of a sparse range there are no pieces: it is one of the list.
+    if asked.request.is_sparse() {
+        asked.request.flags = 0;
     }
     asked
 }
@@ -432,6 +458,7 @@ fn some_table(random: &mut Random, good: &Good) -> Table {
         }
         3 => table.words.truncate(table.words.len() - 1),
         4 => make_stale(random, &mut table),
+        5 => lists::damage(random, &good.space, &mut table.list),
         _ => {}
     }
     table
@@ -477,6 +504,7 @@ fn any_words() {
         let asked = some_request(&mut random, &good);
         if random.once_in(2) {
             table.space = good.space;
+            table.list = good.list.clone();
         }
         if asked.request.size > 0 {
             check(&mut random, &mut tally, &table, &asked);
