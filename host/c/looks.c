@@ -38,7 +38,8 @@ int main(int argc, char **argv)
 
     for (size_t i = 0; i <= 2 * count; i += step) {
         marks[0] = i;
-        waylluqen_translation seen = waylluqen_lookup(space, table, WAYLLUQEN_TABLE_WORDS(room), count, i * page);
+        waylluqen_translation seen =
+            waylluqen_lookup(space, table, 0, 0, table, WAYLLUQEN_TABLE_WORDS(room), count, i * page);
         marks[1] = i;
         if (seen.refusal != WAYLLUQEN_OK)
             return 1;
