@@ -116,21 +116,28 @@ pub fn some_ranges(
     ranges
 }
 
+/// A list of many ranges and room for a few more.
+pub fn long_list(random: &mut Random, space: &Space, mappings: &[Mapping]) -> List {
+    let ranges = some_ranges(random, space, mappings, MOST_RANGES);
+    let spare = random.below(4) as usize;
+    List::of(&ranges, (ranges.len() + spare).min(MOST_RANGES))
+}
+
 /// A good list: of no word, of no range, of some, or now and then of as many as there may be; full
 /// or with room.
 pub fn good_list(random: &mut Random, space: &Space, mappings: &[Mapping]) -> List {
     let most = match random.below(16) {
-        0..=3 => return List::default(),
-        4..=5 => 0,
-        6 => MOST_RANGES,
-        7 => random.below(MOST_RANGES as u64 + 1) as usize,
+        0..=2 => return List::default(),
+        3..=4 => 0,
+        5 => MOST_RANGES,
+        6 => random.below(MOST_RANGES as u64 + 1) as usize,
         _ => 1 + random.below(5) as usize,
     };
     let ranges = some_ranges(random, space, mappings, most);
     let left = MOST_RANGES - ranges.len();
     let spare = match random.below(8) {
-        0..=2 => 0,
-        3 => random.up_to(left as u64) as usize,
+        0..=1 => 0,
+        2 => random.up_to(left as u64) as usize,
         _ => 1 + random.below(3) as usize,
     };
     List::of(&ranges, ranges.len() + spare.min(left))
@@ -192,32 +199,38 @@ pub const DAMAGES: [(&str, Damage); 20] = [
     }),
 ];
 
-/// A range that ends behind the space, or starts before it.
-fn outside(random: &mut Random, space: &Space, list: &mut List, at: usize) {
-    let end = space.start.wrapping_add(space.size);
+/// The last range up to behind the space's end, or the first one from before its start on.
+fn outside(random: &mut Random, space: &Space, list: &mut List, _: usize) {
     let pages = (1 + random.below(4)) * PAGE;
-    let (start, size) = match random.below(3) {
-        0 => (end, pages),
-        1 => (end.wrapping_sub(PAGE), pages.wrapping_add(PAGE)),
-        _ => (space.start.wrapping_sub(pages), pages),
-    };
-    (list.words[at & !1], list.words[at | 1]) = (start, size);
+    let last = (list.used() & !1) - RANGE_WORDS;
+    let words = &mut list.words;
+    if random.once_in(2) {
+        let end = space.start.wrapping_add(space.size);
+        words[last + 1] = end.wrapping_add(pages).wrapping_sub(words[last]);
+    } else {
+        let end = words[0].wrapping_add(words[1]);
+        words[0] = space.start.wrapping_sub(pages);
+        words[1] = end.wrapping_sub(words[0]);
+    }
 }
 
-/// A range that has a page of the reservation, or that only touches it.
-fn into_reservation(random: &mut Random, space: &Space, list: &mut List, at: usize) {
-    let pages = (1 + random.below(4)) * PAGE;
-    let end = space.reserved_start.wrapping_add(space.reserved_size);
-    let (start, size) = match random.below(4) {
-        0 => (space.reserved_start.wrapping_sub(pages), pages),
-        1 => (
-            space.reserved_start.wrapping_sub(pages),
-            pages.wrapping_add(PAGE),
-        ),
-        2 => (end.wrapping_sub(PAGE), pages.wrapping_add(PAGE)),
-        _ => (end, pages),
-    };
-    (list.words[at & !1], list.words[at | 1]) = (start, size);
+/// The range before the reservation up to it or into it, or the one behind it from there on.
+fn into_reservation(random: &mut Random, space: &Space, list: &mut List, _: usize) {
+    let pages = random.below(4) * PAGE;
+    let before = |range: &&SparseRange| range.start < space.reserved_start;
+    let below = list.ranges().iter().take_while(before).count();
+    let words = &mut list.words;
+    if below > 0 && random.once_in(2) {
+        let range = (below - 1) * RANGE_WORDS;
+        let end = space.reserved_start.wrapping_add(pages);
+        words[range + 1] = end.wrapping_sub(words[range]);
+    } else if below * RANGE_WORDS + 1 < words.len() {
+        let range = below * RANGE_WORDS;
+        let end = words[range].wrapping_add(words[range + 1]);
+        let start = space.reserved_start.wrapping_add(space.reserved_size);
+        words[range] = start.wrapping_sub(pages);
+        words[range + 1] = end.wrapping_sub(words[range]);
+    }
 }
 
 /// A start where the forerunner ends or a size up to the next one, or a step beside it.

@@ -129,7 +129,7 @@ pub fn near_sparse_record(random: &mut Random, good: &Good) -> Record {
 
 /// A request that keeps its rules where the table does; some have the flag.
 pub fn near_record(random: &mut Random, good: &Good) -> Record {
-    match random.once_in(4) {
+    match random.once_in(5) {
         true => near_sparse_record(random, good),
         false => near_plain_record(random, good),
     }

@@ -521,12 +521,19 @@ pub fn boundaries(good: &Good) -> Vec<u64> {
         all.extend(ends(mapping.address, mapping.size));
         all.push(mapping.address + mapping.size / 2);
     }
-    for range in good.list.ranges() {
-        all.extend(ends(range.start, range.size));
-        all.push(range.start + range.size / 2);
-    }
+    all.extend(range_boundaries(&good.list));
     all.sort_unstable();
     all.dedup();
+    all
+}
+
+/// Every boundary of each range of a good list, and its middle.
+pub fn range_boundaries(list: &List) -> Vec<u64> {
+    let mut all = Vec::new();
+    for SparseRange { start, size } in list.ranges() {
+        all.extend(ends(start, size));
+        all.push(start + size / 2);
+    }
     all
 }
 

@@ -5,15 +5,15 @@ use std::thread;
 use waylluqen::View;
 use waylluqen_compare::calls::{model_look, Caller, Way};
 use waylluqen_compare::library::{self, ByNumber, Looked};
-use waylluqen_compare::lists::{self, good_list, some_ranges, Faults, List};
+use waylluqen_compare::lists::{self, good_list, long_list, some_ranges, Faults, List};
 use waylluqen_compare::numbers::{
     disturb_space, edge_spaces, edges, other64, space_of, HALF, LIMIT,
 };
 use waylluqen_compare::sights::Sights;
 use waylluqen_compare::tables::{
     any_address, any_table, boundaries, cut_up, damage, fill_space, filled, good_table,
-    large_spaces, make_stale, other_count, other_length, plain_spaces, small_spaces, some_most,
-    Good, Table, DAMAGES, LONGEST_TABLE, MANY_MAPPINGS, MOST_WORDS,
+    large_spaces, make_stale, other_count, other_length, plain_spaces, range_boundaries,
+    small_spaces, some_most, Good, Table, DAMAGES, LONGEST_TABLE, MANY_MAPPINGS, MOST_WORDS,
 };
 use waylluqen_model::random::Random;
 use waylluqen_model::{lookup, Refused, SparseRange, MAPPING_WORDS, MOST_MAPPINGS, PAGE};
@@ -183,7 +183,7 @@ fn good_tables_and_those_near_them() {
             if random.once_in(16) {
                 make_stale(&mut random, &mut table);
             }
-            if random.once_in(8) {
+            if random.once_in(4) {
                 lists::damage(&mut random, &good.space, &mut table.list);
             }
             let address = any_address(&mut random, &good);
@@ -217,12 +217,14 @@ fn boundaries_of_large_tables() {
     let mut tally = Tally::new(26);
     for space in large_spaces() {
         for mappings in [513, 1024, 4094, 4095] {
-            let good = filled(&mut random, space, mappings);
+            let mut good = filled(&mut random, space, mappings);
+            good.list = long_list(&mut random, &space, &good.mappings);
             let all = boundaries(&good);
-            // The first and the last ones, and some of those between.
+            // The first and the last ones, and some of those between; and those of the ranges.
             let between = all.iter().step_by(all.len() / EACH);
             let ends = all[..20].iter().chain(&all[all.len() - 20..]);
-            let some: Vec<u64> = between.chain(ends).copied().collect();
+            let mut some: Vec<u64> = between.chain(ends).copied().collect();
+            some.extend(range_boundaries(&good.list));
             tally.look_at(&good, &some);
         }
     }
@@ -235,11 +237,12 @@ fn every_boundary_of_the_largest_tables() {
     let mut random = Random::new(29);
     let mut tally = Tally::new(30);
     for space in large_spaces() {
-        let good = filled(&mut random, space, MOST_MAPPINGS);
+        let mut good = filled(&mut random, space, MOST_MAPPINGS);
+        good.list = long_list(&mut random, &space, &good.mappings);
         tally.look_at(&good, &boundaries(&good));
     }
     tally.print("every boundary of the largest tables");
-    tally.assert_sights(4);
+    tally.assert_sights(3);
     assert_eq!(tally.on_most, tally.comparisons);
 }
 
