@@ -40,13 +40,14 @@ impl List {
         self.words.is_empty() && self.count == 0
     }
 
-    /// The number of words that as many ranges have as are counted; all where the count is too high.
+    /// The number of words that as many ranges have as are counted; those of all where the count is
+    /// too high.
     fn used(&self) -> usize {
-        let used = self.count.saturating_mul(RANGE_WORDS as u64);
-        used.min(self.words.len() as u64) as usize
+        let room = self.words.len() / RANGE_WORDS;
+        self.count.min(room as u64) as usize * RANGE_WORDS
     }
 
-    /// The words behind as many ranges as are counted: none where the count is too high.
+    /// The words behind as many ranges as are counted.
     pub fn behind(&mut self) -> &mut [u64] {
         let used = self.used();
         &mut self.words[used..]
@@ -202,7 +203,7 @@ pub const DAMAGES: [(&str, Damage); 20] = [
 /// The last range up to behind the space's end, or the first one from before its start on.
 fn outside(random: &mut Random, space: &Space, list: &mut List, _: usize) {
     let pages = (1 + random.below(4)) * PAGE;
-    let last = (list.used() & !1) - RANGE_WORDS;
+    let last = list.used() - RANGE_WORDS;
     let words = &mut list.words;
     if random.once_in(2) {
         let end = space.start.wrapping_add(space.size);
@@ -307,7 +308,7 @@ fn other_length(random: &mut Random, list: &mut List) {
 
 /// Damages a list in one of the ways; one without a range in one that needs none.
 pub fn damage(random: &mut Random, space: &Space, list: &mut List) {
-    let used = list.used() & !1;
+    let used = list.used();
     let (_, damage) = match used {
         0 => random.pick(&DAMAGES[DAMAGES.len() - 3..]),
         _ => random.pick(&DAMAGES),
@@ -323,7 +324,7 @@ pub const RULES: [&str; 9] = [
     "a count above the room",
     "a start or size within a page",
     "an empty range",
-    "an overlap, or out of order",
+    "an overlap or a wrong order",
     "outside the space",
     "in the reservation",
     "a stale word",

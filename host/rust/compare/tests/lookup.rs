@@ -152,6 +152,32 @@ impl Tally {
     }
 }
 
+/// A table with up to two damages, and now and then with something else changed about it.
+fn disturbed(random: &mut Random, good: &Good, whole: &Table) -> Table {
+    let mut table = whole.clone();
+    for _ in 0..random.below(3) {
+        damage(random, good, &mut table.words);
+    }
+    if random.once_in(16) {
+        disturb_space(random, &mut table.space);
+    }
+    if random.once_in(16) {
+        let length = other_length(random, table.words.len());
+        table.words.resize(length, 0);
+    }
+    if random.once_in(16) {
+        let count = other_count(random, whole.count, table.words.len() as u64);
+        table.recount(random, count);
+    }
+    if random.once_in(16) {
+        make_stale(random, &mut table);
+    }
+    if random.once_in(4) {
+        lists::damage(random, &good.space, &mut table.list);
+    }
+    table
+}
+
 #[test]
 fn good_tables_and_those_near_them() {
     const TABLES: u64 = 25_000;
@@ -161,31 +187,10 @@ fn good_tables_and_those_near_them() {
     for _ in 0..TABLES {
         let most = some_most(&mut random, 8);
         let good = good_table(&mut random, most as u64);
-        let mappings = good.mappings.len();
-        let spare = random.up_to((most - mappings) as u64) as usize;
+        let spare = random.up_to((most - good.mappings.len()) as u64) as usize;
         let whole = good.table(spare);
         for _ in 0..CALLS_EACH {
-            let mut table = whole.clone();
-            for _ in 0..random.below(3) {
-                damage(&mut random, &good, &mut table.words);
-            }
-            if random.once_in(16) {
-                disturb_space(&mut random, &mut table.space);
-            }
-            if random.once_in(16) {
-                let length = other_length(&mut random, table.words.len());
-                table.words.resize(length, 0);
-            }
-            if random.once_in(16) {
-                let count = other_count(&mut random, whole.count, table.words.len() as u64);
-                table.recount(&mut random, count);
-            }
-            if random.once_in(16) {
-                make_stale(&mut random, &mut table);
-            }
-            if random.once_in(4) {
-                lists::damage(&mut random, &good.space, &mut table.list);
-            }
+            let table = disturbed(&mut random, &good, &whole);
             let address = any_address(&mut random, &good);
             tally.compare(&table, address).ok();
         }
@@ -427,6 +432,23 @@ fn any_words() {
     assert!(tally.sights.nothing() >= 1000);
 }
 
+/// Looks at one mapping of each of these sizes, objects and offsets at an address.
+fn look_at_edges(tally: &mut Tally, table: &mut Table, address: u64) {
+    let space = table.space;
+    let sizes = edges(&[0, 2 * PAGE, space.size, LIMIT, HALF]);
+    let high = 1 << 32;
+    let objects = [0, 1, 7, high - 1, high, high + 1, HALF, u64::MAX];
+    let offsets = edges(&[0, LIMIT - 2 * PAGE, LIMIT - space.size, LIMIT]);
+    for &size in &sizes {
+        for object in objects {
+            for &offset in &offsets {
+                table.words = vec![address, size, object, offset];
+                tally.compare(table, address).ok();
+            }
+        }
+    }
+}
+
 /// Every address, size, object and offset at an edge, together.
 #[test]
 fn one_mapping_at_edges() {
@@ -434,42 +456,16 @@ fn one_mapping_at_edges() {
     let mut tally = Tally::new(71);
     for space in small_spaces() {
         let end = space.start + space.size;
-        let reserved_end = space.reserved_start + space.reserved_size;
-        let addresses = edges(&[
-            0,
-            space.start,
-            end,
-            space.reserved_start,
-            reserved_end,
-            HALF,
-        ]);
-        let sizes = edges(&[0, 2 * PAGE, space.size, LIMIT, HALF]);
-        let objects = [
-            0,
-            1,
-            7,
-            (1 << 32) - 1,
-            1 << 32,
-            (1 << 32) + 1,
-            HALF,
-            u64::MAX,
-        ];
-        let offsets = edges(&[0, LIMIT - 2 * PAGE, LIMIT - space.size, LIMIT]);
+        let reserved = space.reserved_start;
+        let reserved_end = reserved + space.reserved_size;
         let mut table = Table {
             space,
             list: good_list(&mut random, &space, &[]),
             words: Vec::new(),
             count: 1,
         };
-        for &address in &addresses {
-            for &size in &sizes {
-                for &object in &objects {
-                    for &offset in &offsets {
-                        table.words = vec![address, size, object, offset];
-                        tally.compare(&table, address).ok();
-                    }
-                }
-            }
+        for address in edges(&[0, space.start, end, reserved, reserved_end, HALF]) {
+            look_at_edges(&mut tally, &mut table, address);
         }
     }
     tally.print("one mapping at edges");

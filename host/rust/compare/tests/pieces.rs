@@ -307,39 +307,50 @@ fn check(random: &mut Random, tally: &mut Tally, start: &Table, asked: &Asked) {
     if uncut_answer.is_ok() {
         assert_eq!(outcome.other_refusal, None, "{asked:x?}");
     }
-    if let Err(lent @ (Refusal::StaleWords | Refusal::BadRanges)) = uncut_answer {
-        let is_same = |refusal: Refusal| refusal == lent;
-        let granted = outcome.granted.contains(&true) || outcome.without_room;
-        assert!(!granted && outcome.other_refusal.is_none_or(is_same));
-        let times = match lent {
-            Refusal::StaleWords => &mut tally.stale,
-            _ => &mut tally.bad_ranges,
-        };
-        *times += u64::from(outcome.other_refusal.is_some_and(is_same));
-    }
+    tally.note_lent(uncut_answer, &outcome);
     if outcome.granted.iter().all(|&granted| granted) {
         assert!(uncut_answer.is_ok(), "{uncut_answer:?}, {asked:x?}");
-        let pieces: Option<Vec<Asked>> = pieces.iter().copied().collect();
-        let pieces = pieces.expect("each was granted");
-        let (count, words) = match asked.request.op {
-            MAP => (
-                uncut.table.count + pieces.len() as u64 - 1,
-                with_pieces(&uncut.table, asked, &pieces),
-            ),
-            _ => (uncut.table.count, uncut.table.words),
-        };
-        assert_eq!((series.table.count, &series.table.words), (count, &words));
+        assert_same_end(asked, &pieces, uncut, &series);
+        let extent = asked.request.extent();
+        let shares = |range: &SparseRange| range.extent().shares_byte_with(&extent);
+        let in_sparse = pieces.len() > 1 && start.list.ranges().iter().any(shares);
+        tally.in_sparse += u64::from(in_sparse);
     }
-    let all = outcome.granted.iter().all(|&granted| granted) && outcome.granted.len() > 1;
-    let extent = asked.request.extent();
-    let shares = |range: &SparseRange| range.extent().shares_byte_with(&extent);
-    tally.in_sparse += u64::from(all && start.list.ranges().iter().any(shares));
     tally.note(asked, uncut_answer, &outcome, order.len());
     tally.calls += series.by_record + series.by_numbers;
     tally.mixed += u64::from(series.by_record > 0 && series.by_numbers > 0);
 }
 
+/// Each of the pieces was granted: the end is the uncut request's, with a map's pieces in its place.
+fn assert_same_end(asked: &Asked, pieces: &[Option<Asked>], uncut: Series, series: &Series) {
+    let pieces: Option<Vec<Asked>> = pieces.iter().copied().collect();
+    let pieces = pieces.expect("each was granted");
+    let (count, words) = match asked.request.op {
+        MAP => (
+            uncut.table.count + pieces.len() as u64 - 1,
+            with_pieces(&uncut.table, asked, &pieces),
+        ),
+        _ => (uncut.table.count, uncut.table.words),
+    };
+    assert_eq!((series.table.count, &series.table.words), (count, &words));
+}
+
 impl Tally {
+    /// Where the table or the list as they are lent are refused, they are for each piece.
+    fn note_lent(&mut self, uncut: Answer, outcome: &Outcome) {
+        let Err(lent @ (Refusal::StaleWords | Refusal::BadRanges)) = uncut else {
+            return;
+        };
+        let is_same = |refusal: Refusal| refusal == lent;
+        let granted = outcome.granted.contains(&true) || outcome.without_room;
+        assert!(!granted && outcome.other_refusal.is_none_or(is_same));
+        let times = match lent {
+            Refusal::StaleWords => &mut self.stale,
+            _ => &mut self.bad_ranges,
+        };
+        *times += u64::from(outcome.other_refusal.is_some_and(is_same));
+    }
+
     fn note(&mut self, asked: &Asked, uncut: Answer, outcome: &Outcome, asked_times: usize) {
         let pieces = outcome.granted.len();
         let granted = outcome.granted.iter().filter(|&&granted| granted).count();
@@ -365,47 +376,32 @@ impl Tally {
         count(&mut self.unaligned_granted, unaligned && granted > 0);
     }
 
-    fn assert_all(&self, least: u64) {
-        let Tally {
-            series: _,
-            calls: _,
-            all_granted: [maps, unmaps],
-            all_granted_over_old,
-            without_room,
-            room_later,
-            uncut_alone,
-            pieces_alone,
-            unaligned,
-            unaligned_granted,
-            in_sparse,
-            refused,
-            stale,
-            bad_ranges,
-            repeated,
-            left_out,
-            mixed,
-            unaskable,
-        } = *self;
-        let all = [
+    /// Each situation with its name.
+    fn situations(&self) -> [(&'static str, u64); 17] {
+        let [maps, unmaps] = self.all_granted;
+        [
             ("all pieces of a map granted", maps),
             ("all pieces of an unmap granted", unmaps),
-            ("all pieces granted over old mappings", all_granted_over_old),
-            ("no room for a piece", without_room),
-            ("room for it later", room_later),
-            ("granted uncut alone", uncut_alone),
-            ("granted in pieces alone", pieces_alone),
-            ("unaligned", unaligned),
-            ("unaligned, a piece granted", unaligned_granted),
-            ("refused", refused),
-            ("refused for stale words", stale),
-            ("refused for a bad list", bad_ranges),
-            ("all pieces granted in a sparse range", in_sparse),
-            ("repeated", repeated),
-            ("left out", left_out),
-            ("by numbers and by record", mixed),
-            ("a piece that can't be asked", unaskable),
-        ];
-        for (situation, times) in all {
+            ("all pieces over old mappings", self.all_granted_over_old),
+            ("all pieces granted in a sparse range", self.in_sparse),
+            ("no room for a piece", self.without_room),
+            ("room for it later", self.room_later),
+            ("granted uncut alone", self.uncut_alone),
+            ("granted in pieces alone", self.pieces_alone),
+            ("unaligned", self.unaligned),
+            ("unaligned, a piece granted", self.unaligned_granted),
+            ("refused", self.refused),
+            ("refused for stale words", self.stale),
+            ("refused for a bad list", self.bad_ranges),
+            ("repeated", self.repeated),
+            ("left out", self.left_out),
+            ("by numbers and by record", self.mixed),
+            ("a piece that can't be asked", self.unaskable),
+        ]
+    }
+
+    fn assert_all(&self, least: u64) {
+        for (situation, times) in self.situations() {
             assert!(times >= least, "{situation}: only {times} times");
         }
     }

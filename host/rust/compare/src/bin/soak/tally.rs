@@ -190,9 +190,8 @@ impl Tally {
     fn of_lists(&self) -> String {
         let ([added, removed], most) = (self.flagged, self.most_ranges);
         let rules = RULES.iter().zip(self.faults.alone);
-        let alone: Vec<String> = rules
-            .map(|(rule, times)| format!("{times} {rule}"))
-            .collect();
+        let alone = rules.map(|(rule, times)| format!("{rule} {times}"));
+        let alone: Vec<String> = alone.collect();
         format!(
             "{added} requests added a sparse range, up to {most} of them, and {removed} removed \
              one\nlists refused for one rule alone: {}",
@@ -202,8 +201,8 @@ impl Tally {
 
     fn of_sights(&self) -> String {
         let kinds = self.sights.kinds();
-        let kinds = kinds.map(|(kind, times)| format!("{times} {kind}"));
-        format!("addresses that show {}", kinds.join(", "))
+        let kinds = kinds.map(|(kind, times)| format!("{kind} {times}"));
+        format!("addresses by what they show: {}", kinds.join(", "))
     }
 
     fn of_marks(&self) -> String {
