@@ -24,6 +24,8 @@ struct Tally {
     /// Grants of maps and of unmaps.
     granted: [u64; 2],
     refused: ByNumber,
+    /// Of them those with the flag.
+    refused_flagged: ByNumber,
     /// Grants that hit no mapping, one, two, more.
     hits: [u64; 4],
     /// Remaps with a lower rest alone, an upper rest alone, both.
@@ -33,8 +35,6 @@ struct Tally {
     marks: Marks,
     /// Grants that add a sparse range, and that remove one.
     flagged: [u64; 2],
-    /// Requests for which the table has no room, and for which the list has none.
-    without_room: [u64; 2],
     /// Granted requests beside lists of no word, of no range, of some, and full ones.
     lists: [u64; 4],
     /// Lists that were refused.
@@ -85,12 +85,12 @@ impl Tally {
             calls: 0,
             granted: [0; 2],
             refused: ByNumber::default(),
+            refused_flagged: ByNumber::default(),
             hits: [0; 4],
             rests: [0; 3],
             both_ends: 0,
             marks: Marks::default(),
             flagged: [0; 2],
-            without_room: [0; 2],
             lists: [0; 4],
             faults: Faults::default(),
             freed: 0,
@@ -114,10 +114,9 @@ impl Tally {
 
     fn note_refusal(&mut self, table: &Table, asking: Asking, number: u32) {
         self.refused[number as usize] += 1;
-        match number {
-            11 => self.without_room[usize::from(asking.is_sparse())] += 1,
-            18 => self.faults.count(&table.space, &table.list),
-            _ => {}
+        self.refused_flagged[number as usize] += u64::from(asking.is_sparse());
+        if number == 18 {
+            self.faults.count(&table.space, &table.list);
         }
     }
 
@@ -156,19 +155,25 @@ impl Tally {
         self.marks.count(grant);
     }
 
-    /// Every refusal, every kind of grant and every kind of cut came at least `least` times.
+    /// Every refusal, every kind of grant and every kind of cut came at least `least` times; and with
+    /// the flag too each refusal that there is of such a request.
     fn assert_all(&self, least: u64) {
         for number in NUMBERS {
             let times = self.refused[number as usize];
             assert!(times >= least, "refusal {number} came only {times} times");
         }
+        for number in [1, 2, 3, 4, 5, 6, 7, 8, 9, 11, 17, 18, 19, 20] {
+            let times = self.refused_flagged[number];
+            assert!(times >= least, "{number} with the flag: only {times} times");
+        }
+        assert_eq!(self.refused_flagged[10], 0);
+        assert!(self.without_room().iter().all(|&times| times >= least));
         let kinds = [
             ("granted", &self.granted[..]),
             ("hits", &self.hits[..]),
             ("rests", &self.rests[..]),
             ("both ends", &[self.both_ends]),
             ("with the flag", &self.flagged[..]),
-            ("without room", &self.without_room[..]),
             ("lists", &self.lists[..]),
             ("freed", &[self.freed]),
             ("reserved", &self.reserved[..]),
@@ -176,6 +181,12 @@ impl Tally {
         assert_each(&kinds, least);
         self.assert_marks(least);
         self.faults.assert_each(least);
+    }
+
+    /// Requests for which the table has no room, and for which the list has none.
+    fn without_room(&self) -> [u64; 2] {
+        let of_list = self.refused_flagged[11];
+        [self.refused[11] - of_list, of_list]
     }
 
     /// Every form of the keep mark, and all that comes near it, came at least `least` times.
@@ -193,14 +204,14 @@ impl Tally {
     /// Seen with `cargo test -- --nocapture`.
     fn print(&self, test: &str) {
         println!(
-            "{test}: {} calls, granted {:?}, with the flag {:?}, refused {:?}, without room {:?}, \
+            "{test}: {} calls, granted {:?}, with the flag {:?}, refused {:?}, of them with the flag {:?}, \
              hits {:?}, rests {:?}, both ends {}, freed {}, on most {}, reserved {:?}, lists {:?}, \
              {:?}, {:?}",
             self.calls,
             self.granted,
             self.flagged,
             &self.refused[1..],
-            self.without_room,
+            &self.refused_flagged[1..],
             self.hits,
             self.rests,
             self.both_ends,
@@ -505,7 +516,7 @@ fn every_table_of_six_pages() {
     }
     tally.print("every table of six pages");
     assert!(tally.refused[2] > 0);
-    assert!(tally.without_room.iter().all(|&times| times >= 100));
+    assert!(tally.without_room().iter().all(|&times| times >= 100));
     assert!(tally.flagged.iter().all(|&times| times >= 100));
     assert!(tally.refused[19] >= 100 && tally.refused[20] >= 100);
     assert!(tally.marks.kept.iter().all(|&times| times >= 100));
