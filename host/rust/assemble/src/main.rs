@@ -2,13 +2,12 @@
 
 #![forbid(unsafe_code)]
 
-mod text;
-
 use std::ffi::{OsStr, OsString};
 use std::os::unix::ffi::OsStrExt;
 use std::process::ExitCode;
 use waylluqen_assemble::quote::named;
 use waylluqen_assemble::stream::{read, tell, write};
+use waylluqen_assemble::text;
 
 const USAGE: &str = "usage: assemble [-h] [file]\n";
 

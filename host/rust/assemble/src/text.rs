@@ -1,7 +1,7 @@
 //! The lines of a text, and the bytes of their records.
 
-use waylluqen_assemble::number::{parse, parse_at};
-use waylluqen_assemble::quote::quoted;
+use crate::number::{parse, parse_at};
+use crate::quote::quoted;
 
 /// The longest text that is read, in MiB: far more than one that somebody wrote.
 pub const MOST_TEXT: u64 = 64;
