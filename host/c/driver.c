@@ -592,10 +592,10 @@ static const struct {
 } for_sparse[] = {
     {"reserve a sparse texture", false, SPARSE, {WAYLLUQEN_OP_MAP, 0x112000, 8 * PAGE, 0, 0}},
     {"reserve its end again", true, SPARSE, {WAYLLUQEN_OP_MAP, 0x119000, 2 * PAGE, 0, 0}},
-    {"map four tiles of it", false, PLAIN, {WAYLLUQEN_OP_MAP, 0x113000, 4 * PAGE, TILES, 0}},
+    {"map four tiles of it", false, PLAIN, {WAYLLUQEN_OP_MAP, 0x112000, 4 * PAGE, TILES, 0}},
     {"map across its end", false, PLAIN, {WAYLLUQEN_OP_MAP, 0x119000, 2 * PAGE, RING, 0}},
-    {"map another tile", false, PLAIN, {WAYLLUQEN_OP_MAP, 0x114000, 1 * PAGE, TILES, 0x8000}},
-    {"unmap a tile", false, PLAIN, {WAYLLUQEN_OP_UNMAP, 0x115000, 1 * PAGE, 0, 0}},
+    {"map another tile", false, PLAIN, {WAYLLUQEN_OP_MAP, 0x113000, 1 * PAGE, TILES, 0x8000}},
+    {"unmap a tile", false, PLAIN, {WAYLLUQEN_OP_UNMAP, 0x114000, 1 * PAGE, 0, 0}},
     {"unmap across its end", false, PLAIN, {WAYLLUQEN_OP_UNMAP, 0x119000, 2 * PAGE, 0, 0}},
     {"release it too early", true, SPARSE, {WAYLLUQEN_OP_UNMAP, 0x112000, 8 * PAGE, 0, 0}},
     {"unmap all of it", false, PLAIN, {WAYLLUQEN_OP_UNMAP, 0x112000, 8 * PAGE, 0, 0}},

@@ -608,9 +608,9 @@ fn ask_for_sparse(space: &mut AddressSpace) -> Result<(), Box<dyn Error>> {
     let again = Request::map_sparse(0x11_9000, 2 * PAGE);
     let release = Request::unmap_sparse(0x11_2000, 8 * PAGE);
     let half = Request::unmap_sparse(0x11_2000, 4 * PAGE);
-    let four = Request::map(0x11_3000, 4 * PAGE, TILES, 0);
+    let four = Request::map(0x11_2000, 4 * PAGE, TILES, 0);
     let across = Request::map(0x11_9000, 2 * PAGE, RING, 0);
-    let another = Request::map(0x11_4000, PAGE, TILES, 0x8000);
+    let another = Request::map(0x11_3000, PAGE, TILES, 0x8000);
     let over = Request::map_sparse(0x10_3000, 7 * PAGE);
     for (what, request, refusal) in [
         ("reserve a sparse texture", reserve, None),
@@ -618,7 +618,7 @@ fn ask_for_sparse(space: &mut AddressSpace) -> Result<(), Box<dyn Error>> {
         ("map four tiles of it", four, None),
         ("map across its end", across, None),
         ("map another tile", another, None),
-        ("unmap a tile", Request::unmap(0x11_5000, PAGE), None),
+        ("unmap a tile", Request::unmap(0x11_4000, PAGE), None),
         (
             "unmap across its end",
             Request::unmap(0x11_9000, 2 * PAGE),
