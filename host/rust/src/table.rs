@@ -305,8 +305,8 @@ impl<'a> Table<'a> {
     ///
     /// # Errors
     ///
-    /// [`BadRecordLength`](Refusal::BadRecordLength), else what [`bind`](Table::bind) gives; a pad
-    /// that is not 0 is [`BadFlags`](Refusal::BadFlags) too.
+    /// [`BadRecordLength`](Refusal::BadRecordLength) if that applies, else what
+    /// [`bind`](Table::bind) gives. A pad that is not 0 is [`BadFlags`](Refusal::BadFlags) too.
     ///
     /// ```
     /// use waylluqen::{operation_list_words, Mapping, Operation, Refusal, Space, Table};
