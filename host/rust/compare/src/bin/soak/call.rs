@@ -41,7 +41,7 @@ impl Call {
                 self.compare_bind(way, caller, Asking::Numbers(*request), model);
             }
             Asked::Record(record, model) => {
-                self.compare_bind(way, caller, Asking::Bytes(record), model);
+                self.compare_bind(way, caller, self.asking(way, record), model);
             }
             Asked::Lookup(address, model) => {
                 if !self.goes_on {
@@ -54,6 +54,14 @@ impl Call {
                 check(way, &self.table.space, record);
             }
         }
+    }
+
+    /// The record; or where it has the flag, by the types every other time, its numbers with that.
+    fn asking<'a>(&self, way: Way, record: &'a [u8]) -> Asking<'a> {
+        let bytes = Asking::Bytes(record);
+        let by_numbers = way == Way::Types && self.at_back.is_multiple_of(2);
+        let request = bytes.request().filter(|one| one.is_sparse() && by_numbers);
+        request.map_or(bytes, Asking::Numbers)
     }
 
     fn compare_bind(&self, way: Way, caller: &mut Caller, asking: Asking, model: &Bound) {
