@@ -114,9 +114,9 @@ enum {
  * - Where a range is added, all its pages that no mapping has get a sparse entry.
  *   waylluqen_lookup() tells which these are, %WAYLLUQEN_SHOWN_SPARSE.
  * - Where a range is removed, all its entries are cleared. No mapping shares a byte with it then.
- * - Where an unmap or a remap operation frees pages in a range, and no map follows, they get a
- *   sparse entry again in place of a clear one, also where a request goes across a range's edge.
- *   waylluqen_lookup() tells it here too, after the call.
+ * - Where an unmap or a remap operation frees pages in a range, these get a sparse entry again and
+ *   no clear one; the list tells which they are. waylluqen_lookup() tells it too, but for a map it
+ *   shows already what the map operation at the end is to show.
  *
  * A map operation's entries replace sparse ones like any others. Flush the TLB in each case.
  */

@@ -138,7 +138,8 @@ impl Refusal {
     ///
     /// assert_eq!(Refusal::NoRoom.number(), 11);
     /// assert_eq!(Refusal::BadMapping { place: 3 }.number(), 5);
-    /// assert_eq!(Refusal::NoSuchRange.number(), 20);
+    /// let sparse = [Refusal::BadRanges, Refusal::RangeOverlaps, Refusal::NoSuchRange];
+    /// assert_eq!(sparse.map(Refusal::number), [18, 19, 20]);
     /// ```
     pub const fn number(self) -> u32 {
         match self {
