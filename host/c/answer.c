@@ -2,9 +2,10 @@
  * Makes the calls that come on standard input, with lent memory between pages that may not be
  * touched, and writes what they answer and leave to standard output. host/soak compares that.
  *
- * A call comes as a struct call, then its table's words unless it goes on with the last table,
- * its operation words, and its record's bytes. It leaves six words of answer, then the table's
- * words and the operation words. Words are as the machine has them.
+ * A call comes as a struct call, then the words of its list of sparse ranges and its table's words
+ * unless it goes on with the last ones, its operation words, and its record's bytes. It leaves six
+ * words of answer, then the list's words, the table's words and the operation words. Words are as
+ * the machine has them.
  */
 #define _DEFAULT_SOURCE /* for MAP_ANONYMOUS */
 
@@ -18,15 +19,17 @@
 enum { BIND, BIND_RECORD, LOOKUP, CHECK_REQUEST };
 
 /* What is lent at the back of its memory; the rest at the front. */
-enum { TABLE_AT_BACK = 1, OPERATIONS_AT_BACK = 2, RECORD_AT_BACK = 4 };
+enum { TABLE_AT_BACK = 1, OPERATIONS_AT_BACK = 2, RECORD_AT_BACK = 4, RANGES_AT_BACK = 8 };
 
 #define ANSWER_WORDS 6
 
 struct call {
     uint64_t what;
-    uint64_t goes_on; /* 1 where the table is what the last call with a table left */
+    uint64_t goes_on; /* 1 where list and table are what the last call with a table left */
     uint64_t at_back;
     waylluqen_space space;
+    uint64_t range_words;
+    uint64_t range_count;
     uint64_t table_words;
     uint64_t count;
     uint64_t operation_words;
@@ -35,7 +38,7 @@ struct call {
     uint64_t address;
 };
 
-_Static_assert(sizeof(struct call) == 17 * sizeof(uint64_t), "17 words, without a gap");
+_Static_assert(sizeof(struct call) == 19 * sizeof(uint64_t), "19 words, without a gap");
 _Static_assert(sizeof(waylluqen_translation) == ANSWER_WORDS * sizeof(uint64_t), "the longest");
 
 /* Memories to lend from: a small one takes less time to fill and to look through. The last but one
@@ -53,6 +56,7 @@ struct area {
     size_t bytes;
 };
 
+static struct area ranges = {.name = "list of sparse ranges"};
 static struct area table = {.name = "table"};
 static struct area operations = {.name = "operations"};
 static struct area record = {.name = "record"};
@@ -124,11 +128,13 @@ static int read_call(struct call *call)
     if (bytes != sizeof *call) {
         fail("a call", "is cut");
     }
+    size_t range_bytes = call->range_words * sizeof(uint64_t);
+    size_t table_bytes = call->table_words * sizeof(uint64_t);
     if (!call->goes_on) {
-        lend_input(&table, call->table_words * sizeof(uint64_t),
-                   (call->at_back & TABLE_AT_BACK) != 0);
-    } else if (table.bytes != call->table_words * sizeof(uint64_t)) {
-        fail("a call", "goes on with another table");
+        lend_input(&ranges, range_bytes, (call->at_back & RANGES_AT_BACK) != 0);
+        lend_input(&table, table_bytes, (call->at_back & TABLE_AT_BACK) != 0);
+    } else if (ranges.bytes != range_bytes || table.bytes != table_bytes) {
+        fail("a call", "goes on with another list or table");
     }
     lend_input(&operations, call->operation_words * sizeof(uint64_t),
                (call->at_back & OPERATIONS_AT_BACK) != 0);
@@ -136,22 +142,32 @@ static int read_call(struct call *call)
     return 1;
 }
 
+static waylluqen_answer bind(const struct call *call)
+{
+    return waylluqen_bind(call->space, words_of(&ranges), call->range_words, call->range_count,
+                          words_of(&table), call->table_words, call->count, words_of(&operations),
+                          call->operation_words, call->request);
+}
+
+static waylluqen_answer bind_record(const struct call *call)
+{
+    return waylluqen_bind_record(call->space, words_of(&ranges), call->range_words,
+                                 call->range_count, words_of(&table), call->table_words,
+                                 call->count, words_of(&operations), call->operation_words,
+                                 record.lent, call->record_bytes);
+}
+
 static void ask(const struct call *call, uint64_t *answer)
 {
-    waylluqen_answer got =
-        call->what == BIND
-            ? waylluqen_bind(call->space, words_of(&table), call->table_words, call->count,
-                             words_of(&operations), call->operation_words, call->request)
-            : waylluqen_bind_record(call->space, words_of(&table), call->table_words, call->count,
-                                    words_of(&operations), call->operation_words, record.lent,
-                                    call->record_bytes);
+    waylluqen_answer got = call->what == BIND ? bind(call) : bind_record(call);
     memcpy(answer, &got, sizeof got);
 }
 
 static void look_up(const struct call *call, uint64_t *answer)
 {
-    waylluqen_translation got = waylluqen_lookup(call->space, words_of(&table), call->table_words,
-                                                 call->count, call->address);
+    waylluqen_translation got =
+        waylluqen_lookup(call->space, words_of(&ranges), call->range_words, call->range_count,
+                         words_of(&table), call->table_words, call->count, call->address);
     memcpy(answer, &got, sizeof got);
 }
 
@@ -184,6 +200,7 @@ static void make_checked(const struct call *call, uint64_t *answer)
     if (memcmp(before, record.lent, record.bytes) != 0) {
         fail(record.name, "is changed");
     }
+    check_beside(&ranges);
     check_beside(&table);
     check_beside(&operations);
     check_beside(&record);
@@ -203,6 +220,7 @@ int main(void)
 
     setvbuf(stdout, buffer, _IOFBF, sizeof buffer);
     memset(unwritten, UNWRITTEN_BYTE, sizeof unwritten);
+    prepare_area(&ranges);
     prepare_area(&table);
     prepare_area(&operations);
     prepare_area(&record);
@@ -210,6 +228,7 @@ int main(void)
         uint64_t answer[ANSWER_WORDS] = {0};
         make_checked(&call, answer);
         write_all(answer, sizeof answer);
+        write_all(ranges.lent, ranges.bytes);
         write_all(table.lent, table.bytes);
         write_all(operations.lent, operations.bytes);
         /* Now, so that a call that ends the program is known for the first without an answer. */

@@ -6,27 +6,10 @@
 #include <stdio.h>
 #include <string.h>
 
-#include "support.h"
+#include "binding.h"
 
-#define OPERATION_WORDS WAYLLUQEN_OPERATION_WORDS
-#define LONGEST_LIST ((LONGEST_TABLE / MAPPING_WORDS + 2) * OPERATION_WORDS)
-#define LONGEST_RECORD 80
 /* The most mappings and operations that a case writes out. */
 #define MOST_WRITTEN 6
-#define NUMBER(cases) (sizeof(cases) / sizeof(cases)[0])
-
-struct operation {
-    uint64_t kind;
-    uint64_t keep;
-    struct mapping named;
-    struct mapping lower;
-    struct mapping upper;
-};
-
-_Static_assert(sizeof(waylluqen_request) == 40, "five words, without a gap");
-_Static_assert(sizeof(waylluqen_answer) == 32, "four words, without a gap");
-_Static_assert(sizeof(struct mapping) == MAPPING_WORDS * sizeof(uint64_t), "its words");
-_Static_assert(sizeof(struct operation) == OPERATION_WORDS * sizeof(uint64_t), "its words");
 
 /* A request on a table in a space, the answer, and what a grant leaves. */
 struct test_case {
@@ -52,14 +35,9 @@ struct test_case {
     {WAYLLUQEN_OP_MAP, (first) * PAGE, ((end) - (first)) * PAGE, object, (offset) * PAGE}
 #define UNMAP(first, end) {WAYLLUQEN_OP_UNMAP, (first) * PAGE, ((end) - (first)) * PAGE, 0, 0}
 #define REQUEST(...) {__VA_ARGS__}
-#define BIT_32 (UINT64_C(1) << 32)
 /* A map and an unmap of the first page in the common space, with which nothing is wrong. */
 #define GOOD_MAP {WAYLLUQEN_OP_MAP, 0x100000, PAGE, 5, 0}
 #define GOOD_UNMAP {WAYLLUQEN_OP_UNMAP, 0x100000, PAGE, 0, 0}
-
-#define GRANTED(operations, count) {0, 0, operations, count}
-#define REFUSED(number, count) {number, 0, 0, count}
-#define BAD_PLACE(place, count) {WAYLLUQEN_REFUSED_BAD_MAPPING, place, 0, count}
 
 #define NONE {0, 0, 0, 0}
 #define MAPS(new) {WAYLLUQEN_KIND_MAP, 0, new, NONE, NONE}
@@ -633,142 +611,29 @@ static const struct full_case full_cases[] = {
     {"bad at 4095 of 4096", UNMAP(0, 16384), BAD_PLACE(4095, 4096), 0, 0},
 };
 
-static struct lent lent_table;
-static struct lent lent_list;
-
-/* One call: what is lent, and what it should leave. */
-struct call {
-    const char *name;
-    waylluqen_space space;
-    waylluqen_answer expected;
-    uint64_t count;
-    uint64_t *table;
-    size_t table_words;
-    uint64_t *list;
-    size_t list_words;
-    /* On a grant: the words at the front of the table and of the operations. */
-    const uint64_t *new_words;
-    const uint64_t *new_list;
-};
-
-static void print_answer(const char *what, waylluqen_answer answer)
-{
-    printf("  %s: refusal %" PRIu64 ", place %" PRIu64, what, answer.refusal, answer.place);
-    printf(", operations %" PRIu64 ", count %" PRIu64 "\n", answer.operations, answer.count);
-}
-
-static int is_same(waylluqen_answer one, waylluqen_answer other)
-{
-    return one.refusal == other.refusal && one.place == other.place &&
-           one.operations == other.operations && one.count == other.count;
-}
-
-/* Prints the first word of lent memory that is not as expected; answers 1 if there is one. */
-static int is_changed(const char *name, const char *what, const uint8_t *memory,
-                      const uint8_t *expected, size_t bytes, const uint64_t *words)
-{
-    /* At once, since the memory is long. */
-    if (memcmp(memory, expected, bytes) == 0) {
-        return 0;
-    }
-    for (size_t at = 0; at < bytes; at += sizeof(uint64_t)) {
-        if (memcmp(memory + at, expected + at, sizeof(uint64_t)) != 0) {
-            uint64_t should, is;
-            memcpy(&should, expected + at, sizeof should);
-            memcpy(&is, memory + at, sizeof is);
-            printf("host/c: %s: word %td of the %s is %#" PRIx64 ", not %#" PRIx64 "\n", name,
-                   (const uint64_t *)(const void *)(memory + at) - words, what, is, should);
-            return 1;
-        }
-    }
-    return 0;
-}
-
-/* What the memory should hold after the call: as it is, and on a grant with the new words. */
-static void foresee(const struct call *call, uint8_t *table, uint8_t *list)
-{
-    memcpy(table, lent_table.memory, lent_table.bytes);
-    memcpy(list, lent_list.memory, lent_list.bytes);
-    if (call->expected.refusal != 0) {
-        return;
-    }
-    size_t used = call->expected.count * MAPPING_WORDS * sizeof(uint64_t);
-    size_t all = call->table_words * sizeof(uint64_t);
-    uint8_t *words = table + ((uint8_t *)call->table - lent_table.memory);
-    memcpy(words, call->new_words, used);
-    memset(words + used, 0, all - used);
-    uint8_t *front = list + ((uint8_t *)call->list - lent_list.memory);
-    memcpy(front, call->new_list, call->expected.operations * sizeof(struct operation));
-}
-
-/* Asks by numbers, or by record where there is one; answers 1 where that is answered otherwise. */
-static int is_wrong(const struct call *call, const waylluqen_request *request,
-                    const uint8_t *record, size_t record_bytes)
-{
-    waylluqen_answer answer =
-        record == NULL
-            ? waylluqen_bind(call->space, call->table, call->table_words, call->count, call->list,
-                             call->list_words, *request)
-            : waylluqen_bind_record(call->space, call->table, call->table_words, call->count,
-                                    call->list, call->list_words, record, record_bytes);
-    if (is_same(answer, call->expected)) {
-        return 0;
-    }
-    printf("host/c: %s, by %s\n", call->name, record == NULL ? "numbers" : "record");
-    print_answer("expected", call->expected);
-    print_answer("answered", answer);
-    return 1;
-}
-
-/* What the memory should hold when all is asked. */
-static uint8_t left_table[(LONGEST_TABLE + 512) * sizeof(uint64_t)];
-static uint8_t left_list[(LONGEST_LIST + 512) * sizeof(uint64_t)];
-
-static int is_left_otherwise(const struct call *call)
-{
-    return is_changed(call->name, "table", lent_table.memory, left_table, lent_table.bytes,
-                      call->table) ||
-           is_changed(call->name, "operations", lent_list.memory, left_list, lent_list.bytes,
-                      call->list);
-}
-
-/* Asks once; answers 1 where the answer or what it leaves is not as expected. */
-static int differs(const struct call *call, const waylluqen_request *request, const uint8_t *record,
-                   size_t record_bytes)
-{
-    foresee(call, left_table, left_list);
-    return is_wrong(call, request, record, record_bytes) || is_left_otherwise(call);
-}
-
-/* Lends old words and operation words, each at the front or at the back. */
-static void lend_both(struct call *call, const uint64_t *old, int table_at_back, int list_at_back)
-{
-    static uint64_t unwritten[LONGEST_LIST];
-    memset(unwritten, UNWRITTEN_BYTE, sizeof unwritten);
-    call->table = lend(&lent_table, old, call->table_words, table_at_back);
-    call->list = lend(&lent_list, unwritten, call->list_words, list_at_back);
-}
-
 /* Whether a record has room for the numbers of a request. */
 static int fits_record(const waylluqen_request *request)
 {
     return request->op <= UINT32_MAX && request->object <= UINT32_MAX;
 }
 
-/* Every way to lend and to ask; answers 1 where one is not as expected. */
-static int run(struct call *call, const waylluqen_request *request, const uint64_t *old)
+/* Some ways to lend, and every way to ask, with a list; answers 1 where one is not as expected. */
+static int run_with(struct call *call, const waylluqen_request *request, const uint64_t *ranges,
+                    const uint64_t *old)
 {
+    static const int ways[] = {0, TABLE_AT_BACK | RANGES_AT_BACK, LIST_AT_BACK | RANGES_AT_BACK,
+                               TABLE_AT_BACK | LIST_AT_BACK};
     struct record fields = {(uint32_t)request->op, 0, (uint32_t)request->object, 0,
                             request->address, request->offset, request->size};
     /* One byte in front, so that the record is at an odd address. */
     _Alignas(8) uint8_t bytes[1 + RECORD_BYTES];
     encode(bytes + 1, &fields);
-    for (int way = 0; way < 4; way++) {
-        lend_both(call, old, way & 1, way >> 1);
+    for (size_t i = 0; i < NUMBER(ways); i++) {
+        lend_all(call, ranges, old, ways[i]);
         if (differs(call, request, NULL, 0)) {
             return 1;
         }
-        lend_both(call, old, way & 1, way >> 1);
+        lend_all(call, ranges, old, ways[i]);
         if (fits_record(request) && differs(call, NULL, bytes + 1, RECORD_BYTES)) {
             return 1;
         }
@@ -776,11 +641,34 @@ static int run(struct call *call, const waylluqen_request *request, const uint64
     return 0;
 }
 
-/* The least operation words for a table, and some more or fewer. */
-static size_t list_words(size_t table_words, int more)
+/* Whether it is refused before the list is looked at. */
+static int comes_before_18(uint64_t refusal)
 {
-    size_t least = (table_words / MAPPING_WORDS + 1) * OPERATION_WORDS;
-    return more < 0 ? least - (size_t)-more : least + (size_t)more;
+    return (refusal >= 1 && refusal <= 5) || (refusal >= 12 && refusal <= 14) || refusal == 17;
+}
+
+/* With no list; with one that has all of the space, which has no say and does not change; and with
+ * a word behind that one's last range that is not 0. */
+static int run(const struct call *test, const waylluqen_request *request, const uint64_t *old)
+{
+    struct range whole[WHOLE_RANGES];
+    uint64_t words[WHOLE_RANGES * RANGE_WORDS];
+    struct call call = *test;
+    size_t count = put_whole(whole, &call.space);
+    memcpy(words, whole, sizeof words);
+    if (run_with(&call, request, words, old)) {
+        return 1;
+    }
+    call.range_words = NUMBER(words);
+    call.range_count = call.expected.ranges = count;
+    if (run_with(&call, request, words, old)) {
+        return 1;
+    }
+    words[NUMBER(words) - 1] = 1;
+    if (!comes_before_18(call.expected.refusal)) {
+        call.expected = (waylluqen_answer){18, 0, 0, call.count, count};
+    }
+    return run_with(&call, request, words, old);
 }
 
 /* The written mappings, and zeros behind them. */
@@ -868,13 +756,15 @@ static int run_record(const struct record_case *test)
     memset(bytes, UNWRITTEN_BYTE, sizeof bytes);
     encode(bytes, &test->record);
     uint64_t *words = old_words(five);
-    lend_both(&call, words, 0, 0);
+    const uint64_t no_range[RANGE_WORDS] = {0}, bad_range[RANGE_WORDS] = {1};
+    call.range_words = RANGE_WORDS;
+    lend_all(&call, no_range, words, 0);
     if (differs(&call, NULL, bytes, test->record_bytes)) {
         return 1;
     }
-    /* A stale word comes behind all these. */
+    /* A stale word comes behind all these, and so does a bad list. */
     words[6 * MAPPING_WORDS - 1] = 1;
-    lend_both(&call, words, 0, 0);
+    lend_all(&call, bad_range, words, 0);
     return differs(&call, NULL, bytes, test->record_bytes);
 }
 
@@ -924,7 +814,7 @@ static int run_full(const struct full_case *test)
 static int stale_differs(const struct call *call, const waylluqen_request *request,
                          const uint8_t *record)
 {
-    foresee(call, left_table, left_list);
+    foresee(call);
     for (size_t at = call->count * MAPPING_WORDS; at < call->table_words; at++) {
         int changed = call->table[at] != 0;
         call->table[at] = stale_word(at);
@@ -943,6 +833,7 @@ static int stale_differs(const struct call *call, const waylluqen_request *reque
 static int run_stale(const struct stale_table *test)
 {
     static struct mapping old[MOST_MAPPINGS];
+    const uint64_t no_ranges[1] = {0};
     const waylluqen_request request = {WAYLLUQEN_OP_MAP, 0, PAGE, 5, 0};
     const struct record fields = {.object = 5, .size = PAGE};
     struct call call = {.name = "a stale word",
@@ -956,7 +847,7 @@ static int run_stale(const struct stale_table *test)
     memset(old, 0, sizeof old);
     fill_places(old, test->count);
     for (int at_back = 0; at_back <= 1; at_back++) {
-        lend_both(&call, (const uint64_t *)(const void *)old, at_back, at_back);
+        lend_all(&call, no_ranges, (const uint64_t *)(const void *)old, at_back ? WAYS - 1 : 0);
         if (stale_differs(&call, &request, record)) {
             return 1;
         }
@@ -969,7 +860,7 @@ int main(void)
     const size_t all = NUMBER(grants) + NUMBER(refusals) + NUMBER(records) + NUMBER(full_cases);
     size_t failed = 0, stale = 0;
 
-    if (!prepare(&lent_table, LONGEST_TABLE) || !prepare(&lent_list, LONGEST_LIST)) {
+    if (!prepare_all(LONGEST_TABLE, LONGEST_LIST)) {
         printf("host/c: mmap failed\n");
         return 1;
     }

@@ -27,6 +27,8 @@ struct raw_case {
 /* Object, address, offset and size of a map; address and size of an unmap. */
 #define MAP(object, address, offset, size) {0, 0, object, 0, address, offset, size}
 #define UNMAP(address, size) {1, 0, 0, 0, address, 0, size}
+/* Op, object, address, offset and size of a request with the sparse flag. */
+#define SPARSE(op, object, address, offset, size) {op, 256, object, 0, address, offset, size}
 /* A map and an unmap with which nothing is wrong in the common space. */
 #define GOOD_MAP MAP(7, 0x100000, 0x3000, 0x2000)
 #define GOOD_UNMAP UNMAP(0x100000, 0x2000)
@@ -55,6 +57,7 @@ static const struct test_case cases[] = {
     CASE("op 2^24", 13, REQUEST(0x1000000, 0, 0, 0, 0x100000, 0, 0x1000), COMMON),
     CASE("highest op", 13, REQUEST(UINT32_MAX, 0, 0, 0, 0x100000, 0, 0x1000), COMMON),
     CASE("op 2 and flags 1", 13, REQUEST(2, 1, 0, 0, 0x100000, 0, 0x1000), COMMON),
+    CASE("op 2 and flags 256", 13, REQUEST(2, 256, 0, 0, 0x100000, 0, 0x1000), COMMON),
     CASE("op 2 and pad 1", 13, REQUEST(2, 0, 0, 1, 0x100000, 0, 0x1000), COMMON),
     CASE("op 2, bad space", 13, REQUEST(2, 0, 0, 0, 0x100000, 0, 0x1000), SPACE(1, 0, 0, 0)),
 
@@ -70,6 +73,22 @@ static const struct test_case cases[] = {
     CASE("flags equal to pad", 14, REQUEST(0, UINT32_MAX, 7, UINT32_MAX, 0x100000, 0, 0x1000),
          COMMON),
     CASE("flags 1, bad space", 14, REQUEST(0, 1, 7, 0, 0x100000, 0, 0x1000), SPACE(1, 0, 0, 0)),
+
+    /* 14: the sparse flag, and no other beside it or in its place. */
+    CASE("sparse map", 0, SPARSE(0, 0, 0x100000, 0, 0x1000), COMMON),
+    CASE("sparse unmap", 0, SPARSE(1, 0, 0x100000, 0, 0x1000), COMMON),
+    CASE("flags 128", 14, REQUEST(0, 128, 0, 0, 0x100000, 0, 0x1000), COMMON),
+    CASE("flags 255", 14, REQUEST(0, 255, 0, 0, 0x100000, 0, 0x1000), COMMON),
+    CASE("flags 257", 14, REQUEST(0, 257, 0, 0, 0x100000, 0, 0x1000), COMMON),
+    CASE("flags 512", 14, REQUEST(1, 512, 0, 0, 0x100000, 0, 0x1000), COMMON),
+    CASE("flags 768", 14, REQUEST(1, 768, 0, 0, 0x100000, 0, 0x1000), COMMON),
+    CASE("flags 2^16", 14, REQUEST(0, 0x10000, 0, 0, 0x100000, 0, 0x1000), COMMON),
+    CASE("flags 256 and highest flag", 14, REQUEST(0, 0x80000100, 0, 0, 0x100000, 0, 0x1000),
+         COMMON),
+    CASE("flags 256 and pad 1", 14, REQUEST(0, 256, 0, 1, 0x100000, 0, 0x1000), COMMON),
+    CASE("flags 256 and pad 256", 14, REQUEST(1, 256, 0, 256, 0x100000, 0, 0x1000), COMMON),
+    CASE("pad 256", 14, REQUEST(1, 0, 0, 256, 0x100000, 0, 0x1000), COMMON),
+    CASE("flags 256, bad space", 1, SPARSE(0, 0, 0x100000, 0, 0x1000), SPACE(1, 0, 0, 0)),
 
     /* 1: multiples of a page. */
     CASE("start one above", 1, GOOD_MAP, SPACE(0x100001, 0x100000, 0x140000, 0x40000)),
@@ -198,6 +217,29 @@ static const struct test_case cases[] = {
     CASE("unmap with object and offset", 9, REQUEST(1, 0, 1, 0, 0x100000, PAGE, PAGE), COMMON),
     CASE("unmap with offset 2^48", 9, REQUEST(1, 0, 0, 0, 0x100000, LIMIT, PAGE), COMMON),
 
+    /* 6 to 9 with the sparse flag; 10 can't come. */
+    CASE("sparse, address one above", 6, SPARSE(0, 0, 0x100001, 0, PAGE), COMMON),
+    CASE("sparse, size 0", 6, SPARSE(1, 0, 0x100000, 0, 0), COMMON),
+    CASE("sparse map with offset 1", 6, SPARSE(0, 0, 0x100000, 1, PAGE), COMMON),
+    CASE("sparse unmap with offset 1", 6, SPARSE(1, 0, 0x100000, 1, PAGE), COMMON),
+    CASE("sparse, unaligned and object", 6, SPARSE(0, 7, 0x100001, 0, PAGE), COMMON),
+    CASE("sparse, to a page above the end", 7, SPARSE(0, 0, 0x1ff000, 0, 2 * PAGE), COMMON),
+    CASE("sparse, outside and object", 7, SPARSE(1, 7, 0x200000, 0, PAGE), COMMON),
+    CASE("sparse, shares the first reserved page", 8, SPARSE(0, 0, 0x13f000, 0, 2 * PAGE), COMMON),
+    CASE("sparse, reserved and offset", 8, SPARSE(1, 0, 0x140000, PAGE, PAGE), COMMON),
+    CASE("sparse map with object 1", 9, SPARSE(0, 1, 0x100000, 0, PAGE), COMMON),
+    CASE("sparse map with the highest object", 9, SPARSE(0, UINT32_MAX, 0x100000, 0, PAGE), COMMON),
+    CASE("sparse map with offset 4096", 9, SPARSE(0, 0, 0x100000, PAGE, PAGE), COMMON),
+    CASE("sparse map with object and offset", 9, SPARSE(0, 7, 0x100000, PAGE, PAGE), COMMON),
+    CASE("sparse unmap with object 1", 9, SPARSE(1, 1, 0x100000, 0, PAGE), COMMON),
+    CASE("sparse unmap with offset 4096", 9, SPARSE(1, 0, 0x100000, PAGE, PAGE), COMMON),
+    CASE("sparse map with offset 2^48", 9, SPARSE(0, 0, 0x100000, LIMIT, PAGE), COMMON),
+    CASE("sparse map, offset and size above 2^64", 9, SPARSE(0, 0, 0x100000, LAST_PAGE, 2 * PAGE),
+         COMMON),
+    CASE("sparse map of the whole space", 0, SPARSE(0, 0, 0, 0, LIMIT), SPACE(0, LIMIT, 0, 0)),
+    CASE("sparse map up to the reservation", 0, SPARSE(0, 0, 0x100000, 0, 0x40000), COMMON),
+    CASE("sparse unmap behind the reservation", 0, SPARSE(1, 0, 0x180000, 0, 0x80000), COMMON),
+
     /* 10: the offset. */
     CASE("offset and size are 2^48", 0, MAP(7, 0x100000, LIMIT - PAGE, PAGE), COMMON),
     CASE("offset and two pages are 2^48", 0, MAP(7, 0x100000, LIMIT - 2 * PAGE, 2 * PAGE), COMMON),
@@ -219,6 +261,15 @@ static const struct raw_case raw_cases[] = {
       0, 0, 0, 0, 0, 0, 0, 0, 0, 0, 0, 0, 0, 0x20, 0, 0, 0, 0, 0, 0}},
     {"highest byte of flags", 14,
      {1, 0, 0, 0, 0, 0, 0, 1, 0, 0, 0, 0, 0, 0, 0, 0, 0, 0, 0x10, 0,
+      0, 0, 0, 0, 0, 0, 0, 0, 0, 0, 0, 0, 0, 0x20, 0, 0, 0, 0, 0, 0}},
+    {"the sparse flag", 0,
+     {1, 0, 0, 0, 0, 1, 0, 0, 0, 0, 0, 0, 0, 0, 0, 0, 0, 0, 0x10, 0,
+      0, 0, 0, 0, 0, 0, 0, 0, 0, 0, 0, 0, 0, 0x20, 0, 0, 0, 0, 0, 0}},
+    {"the third byte of flags", 14,
+     {1, 0, 0, 0, 0, 0, 1, 0, 0, 0, 0, 0, 0, 0, 0, 0, 0, 0, 0x10, 0,
+      0, 0, 0, 0, 0, 0, 0, 0, 0, 0, 0, 0, 0, 0x20, 0, 0, 0, 0, 0, 0}},
+    {"the second byte of pad", 14,
+     {1, 0, 0, 0, 0, 0, 0, 0, 0, 0, 0, 0, 0, 1, 0, 0, 0, 0, 0x10, 0,
       0, 0, 0, 0, 0, 0, 0, 0, 0, 0, 0, 0, 0, 0x20, 0, 0, 0, 0, 0, 0}},
     {"lowest byte of object", 9,
      {1, 0, 0, 0, 0, 0, 0, 0, 1, 0, 0, 0, 0, 0, 0, 0, 0, 0, 0x10, 0,

@@ -1,9 +1,10 @@
 /* SPDX-License-Identifier: MIT */
 /*
  * An example driver: it keeps one address space and carries each operation out on a page table,
- * here an array. Where that fails half-way, it goes back. host/rust/examples/driver.rs is the same
- * in Rust. Both print what host/driver.out has, and end with 1 if a page entry is not what look-ups
- * say. From the repository's root:
+ * here an array. Where that fails half-way, it goes back. It also keeps sparse ranges, and sees to
+ * the entries of their pages. host/rust/examples/driver.rs is the same in Rust. Both print what
+ * host/driver.out has, and end with 1 if a page entry is not what look-ups say. From the
+ * repository's root:
  *
  *     rt staticlib waylluqen
  *     gcc -std=c99 -O2 -Ihost/include host/c/driver.c target/staticlib/libwaylluqen.a -o driver
@@ -23,12 +24,12 @@
 #define HEX "0x%" PRIx64
 #define LENGTH(array) (sizeof(array) / sizeof *(array))
 
-enum { PAGES = 16, CAPACITY = 8 };
-enum { FRAMEBUFFER = 1, TEXTURE = 2, RING = 3 }; /* objects; 0 is none */
+enum { PAGES = 32, CAPACITY = 8, RANGES = 4 };
+enum { FRAMEBUFFER = 1, TEXTURE = 2, RING = 3, TILES = 4 }; /* objects; 0 is none */
 
-/* What a page's first byte shows; zeros where that is nothing. */
+/* What a page's first byte shows, as a look-up has it. That it is sparse is a bit in hardware. */
 struct entry {
-    uint64_t object, offset;
+    uint64_t shown, object, offset;
 };
 
 /* Stands for the page table that the GPU reads. */
@@ -37,9 +38,11 @@ struct page_table {
     uint64_t memory; /* how many entries can be changed until one can't be; a simulation */
 };
 
-/* A table's words and their count: they change together, so they are copied together. */
+/* The words of a table and of a list of sparse ranges, and their counts: they belong together, so
+ * they are copied together. */
 struct table {
     uint64_t words[WAYLLUQEN_TABLE_WORDS(CAPACITY)], count;
+    uint64_t ranges[WAYLLUQEN_RANGE_LIST_WORDS(RANGES)], range_count;
 };
 
 /* How many page entries were written from look-ups, and from how many. */
@@ -62,9 +65,9 @@ struct range {
     uint64_t start, end;
 };
 
-/* How many page entries a request clears, keeps and writes. */
+/* How many page entries a request clears, keeps, writes and makes sparse. */
 struct counts {
-    uint64_t cleared, kept, written;
+    uint64_t cleared, kept, written, sparse;
 };
 
 /* What became of a request. REFUSED and WENT_BACK leave all as it was. */
@@ -78,7 +81,7 @@ static void fail(const char *why, uint64_t number)
 
 static const char *name_of(uint64_t object)
 {
-    static const char *const names[] = {"nothing", "framebuffer", "texture", "ring"};
+    static const char *const names[] = {"nothing", "framebuffer", "texture", "ring", "tiles"};
     return object < LENGTH(names) ? names[object] : "unknown";
 }
 
@@ -160,8 +163,34 @@ static struct range lost(const uint64_t *operation)
     return range;
 }
 
-/* With keep the entries are left alone: the new mapping shows the same there. */
-static bool unmap(struct page_table *pages, struct counts *counts, const uint64_t *operation)
+/* Clears an entry, or makes it sparse. */
+static bool clear(struct page_table *pages, struct counts *counts, uint64_t address, bool sparse)
+{
+    uint64_t shown = sparse ? WAYLLUQEN_SHOWN_SPARSE : WAYLLUQEN_SHOWN_NOTHING;
+    if (!change(pages, address, (struct entry){shown, 0, 0})) {
+        return false;
+    }
+    *(sparse ? &counts->sparse : &counts->cleared) += 1;
+    return true;
+}
+
+/* Whether a page is in a sparse range, by the list's words. For a map request a look-up would show
+ * the new mapping here already, before its entries are written. */
+static bool is_in_range(const struct table *table, uint64_t address)
+{
+    for (uint64_t i = 0; i < table->range_count; i++) {
+        const uint64_t *range = table->ranges + i * WAYLLUQEN_RANGE_WORDS;
+        uint64_t start = range[WAYLLUQEN_RANGE_START];
+        if (start <= address && address - start < range[WAYLLUQEN_RANGE_SIZE]) {
+            return true;
+        }
+    }
+    return false;
+}
+
+/* With keep the entries are left alone: the new mapping shows the same there. Any others are sparse
+ * where the old mapping lies over a sparse range. */
+static bool unmap(struct address_space *space, struct counts *counts, const uint64_t *operation)
 {
     struct range old = lost(operation);
     if (operation[WAYLLUQEN_OPERATION_KEEP]) {
@@ -169,10 +198,9 @@ static bool unmap(struct page_table *pages, struct counts *counts, const uint64_
         return true;
     }
     for (uint64_t at = old.start; at < old.end; at += PAGE) {
-        if (!change(pages, at, (struct entry){0, 0})) {
+        if (!clear(&space->pages, counts, at, is_in_range(&space->table, at))) {
             return false;
         }
-        counts->cleared++;
     }
     return true;
 }
@@ -182,8 +210,9 @@ static bool write_entries(struct page_table *pages, struct counts *counts, const
                           uint64_t start, uint64_t end)
 {
     for (uint64_t at = start; at < end; at += PAGE) {
-        uint64_t offset = new[WAYLLUQEN_MAPPING_OFFSET] + (at - new[WAYLLUQEN_MAPPING_ADDRESS]);
-        if (!change(pages, at, (struct entry){new[WAYLLUQEN_MAPPING_OBJECT], offset})) {
+        struct entry entry = {WAYLLUQEN_SHOWN_OBJECT, new[WAYLLUQEN_MAPPING_OBJECT],
+                              new[WAYLLUQEN_MAPPING_OFFSET] + at - new[WAYLLUQEN_MAPPING_ADDRESS]};
+        if (!change(pages, at, entry)) {
             return false;
         }
         counts->written++;
@@ -210,51 +239,85 @@ static bool map(struct page_table *pages, struct counts *counts, const uint64_t 
     return write_entries(pages, counts, new, start, end_of(new));
 }
 
-/* Carries out an operation of the list; false if it failed, perhaps half-way. */
-static bool carry_out(struct page_table *pages, struct counts *counts, const uint64_t *list,
-                      const uint64_t *operation)
+/* Carries out the operations in order; false if one failed, perhaps half-way. */
+static bool carry_out(struct address_space *space, struct counts *counts, uint64_t operations)
 {
-    if (operation[WAYLLUQEN_OPERATION_KIND] == WAYLLUQEN_KIND_MAP) {
-        return map(pages, counts, list, operation);
+    const uint64_t *list = space->operations;
+    for (uint64_t i = 0; i < operations; i++) {
+        const uint64_t *operation = list + i * WAYLLUQEN_OPERATION_WORDS;
+        bool maps = operation[WAYLLUQEN_OPERATION_KIND] == WAYLLUQEN_KIND_MAP;
+        /* A remap is an unmap too: its rests show what they showed. */
+        if (!(maps ? map(&space->pages, counts, list, operation)
+                   : unmap(space, counts, operation))) {
+            return false;
+        }
     }
-    return unmap(pages, counts, operation); /* a remap too: its rests show what they showed */
+    return true;
 }
 
 static waylluqen_translation look_up(const struct address_space *space, uint64_t address)
 {
-    return waylluqen_lookup(space->bounds, space->table.words, LENGTH(space->table.words),
-                            space->table.count, address);
+    const struct table *table = &space->table;
+    return waylluqen_lookup(space->bounds, table->ranges, LENGTH(table->ranges), table->range_count,
+                            table->words, LENGTH(table->words), table->count, address);
+}
+
+/* The run from an address on, cut at an end: one look-up answers for all pages that go on in the
+ * same way, so that a large mapping takes no more of them than a small one. */
+static waylluqen_translation run_from(const struct address_space *space, uint64_t start,
+                                      uint64_t end)
+{
+    waylluqen_translation run = look_up(space, start);
+    if (run.bytes == 0) {
+        fail("a look-up is refused, or outside the space, at", start);
+    }
+    run.bytes = run.bytes < end - start ? run.bytes : end - start;
+    return run;
 }
 
 /* What is shown so many bytes further on in a run. */
 static struct entry entry_in(waylluqen_translation run, uint64_t bytes)
 {
-    struct entry entry = {0, 0};
+    struct entry entry = {run.shown, run.object, run.offset};
     if (run.shown == WAYLLUQEN_SHOWN_OBJECT) {
-        entry = (struct entry){run.object, run.offset + bytes};
+        entry.offset += bytes;
     }
     return entry;
 }
 
-/* Writes the entries of a range from look-ups: one answers for all pages that go on in the same
- * way, so that a large mapping takes no more of them than a small one. */
+/* Writes the entries of a range from look-ups. */
 static struct from_look_ups write_shown(struct address_space *space, struct range range)
 {
     waylluqen_translation run;
     struct from_look_ups written = {0};
     for (uint64_t start = range.start; start < range.end; start += run.bytes) {
-        run = look_up(space, start);
+        run = run_from(space, start, range.end);
         written.look_ups++;
-        if (run.bytes == 0) {
-            fail("a look-up is refused, or outside the space, at", start);
-        }
-        /* The last run may go on behind the range. */
-        for (uint64_t at = start; at < start + run.bytes && at < range.end; at += PAGE) {
+        for (uint64_t at = start; at < start + run.bytes; at += PAGE) {
             *entry_of(&space->pages, at) = entry_in(run, at - start);
             written.entries++;
         }
     }
     return written;
+}
+
+/* What a sparse range that was added or removed leaves to the driver: its pages that no mapping has
+ * are sparse now, or show nothing. False if that failed, perhaps half-way. */
+static bool write_sparse(struct address_space *space, struct counts *counts, struct range range)
+{
+    waylluqen_translation run;
+    for (uint64_t start = range.start; start < range.end; start += run.bytes) {
+        run = run_from(space, start, range.end);
+        if (run.shown == WAYLLUQEN_SHOWN_OBJECT) {
+            continue;
+        }
+        for (uint64_t at = start; at < start + run.bytes; at += PAGE) {
+            if (!clear(&space->pages, counts, at, run.shown == WAYLLUQEN_SHOWN_SPARSE)) {
+                return false;
+            }
+        }
+    }
+    return true;
 }
 
 /* Takes back what failed half-way: the table by its copy, and the entries by look-ups in it. Only
@@ -267,25 +330,40 @@ static void go_back(struct address_space *space, const struct table *before, str
     space->went_back = write_shown(space, asked); /* not refused, since the bind took this table */
 }
 
-/* Carries a grant's operations out in order, or goes back. Either way a driver then flushes the
- * GPU's TLB, but not for what was kept. */
+static void print_grant(const struct address_space *space, waylluqen_answer granted, bool sparse,
+                        struct counts counts)
+{
+    for (uint64_t i = 0; i < granted.operations; i++) {
+        print_operation(space->operations + i * WAYLLUQEN_OPERATION_WORDS);
+    }
+    if (sparse) {
+        printf("  sparse ranges: %" PRIu64 "\n", granted.ranges);
+    }
+    printf("  page entries: %" PRIu64 " cleared, %" PRIu64 " kept, %" PRIu64 " written",
+           counts.cleared, counts.kept, counts.written);
+    printf(", %" PRIu64 " sparse\n", counts.sparse);
+}
+
+/* What was asked for, and whether with the sparse flag. */
+struct asked {
+    struct range range;
+    bool sparse;
+};
+
+/* Carries a grant out, or goes back. Either way a driver then flushes the GPU's TLB, but not for
+ * what was kept. */
 static enum outcome finish(struct address_space *space, const struct table *before,
-                           waylluqen_answer granted, uint64_t address, uint64_t size)
+                           waylluqen_answer granted, struct asked asked)
 {
     struct counts counts = {0};
-    const uint64_t *list = space->operations;
     space->table.count = granted.count;
-    for (uint64_t i = 0; i < granted.operations; i++) {
-        if (!carry_out(&space->pages, &counts, list, list + i * WAYLLUQEN_OPERATION_WORDS)) {
-            go_back(space, before, (struct range){address, address + size});
-            return WENT_BACK;
-        }
+    space->table.range_count = granted.ranges;
+    if (!(asked.sparse ? write_sparse(space, &counts, asked.range)
+                       : carry_out(space, &counts, granted.operations))) {
+        go_back(space, before, asked.range);
+        return WENT_BACK;
     }
-    for (uint64_t i = 0; i < granted.operations; i++) {
-        print_operation(list + i * WAYLLUQEN_OPERATION_WORDS);
-    }
-    printf("  page entries: %" PRIu64 " cleared, %" PRIu64 " kept, %" PRIu64 " written\n",
-           counts.cleared, counts.kept, counts.written);
+    print_grant(space, granted, asked.sparse, counts);
     return CARRIED_OUT;
 }
 
@@ -293,22 +371,23 @@ static enum outcome finish(struct address_space *space, const struct table *befo
  * a kernel stack. With much room a driver has it beside the table. */
 static enum outcome bind(struct address_space *space, waylluqen_request request)
 {
-    struct table before = space->table;
-    waylluqen_answer answer =
-        waylluqen_bind(space->bounds, space->table.words, LENGTH(space->table.words),
-                       space->table.count, space->operations, LENGTH(space->operations), request);
+    struct table before = space->table, *table = &space->table;
+    struct asked asked = {{request.address, request.address + request.size}, false};
+    waylluqen_answer answer = waylluqen_bind(
+        space->bounds, table->ranges, LENGTH(table->ranges), table->range_count, table->words,
+        LENGTH(table->words), table->count, space->operations, LENGTH(space->operations), request);
     if (answer.refusal != WAYLLUQEN_OK) {
         print_refusal(answer);
         return REFUSED;
     }
-    return finish(space, &before, answer, request.address, request.size);
+    return finish(space, &before, answer, asked);
 }
 
-/* Eight bytes of a record. */
-static uint64_t get(const uint8_t *field)
+/* Some bytes of a record. */
+static uint64_t get(const uint8_t *field, int bytes)
 {
     uint64_t value = 0;
-    for (int i = 0; i < 8; i++) {
+    for (int i = 0; i < bytes; i++) {
         value |= (uint64_t)field[i] << (8 * i); /* little-endian */
     }
     return value;
@@ -316,17 +395,20 @@ static uint64_t get(const uint8_t *field)
 
 static enum outcome bind_record(struct address_space *space, const uint8_t *record, size_t bytes)
 {
-    struct table before = space->table;
+    struct table before = space->table, *table = &space->table;
     waylluqen_answer answer = waylluqen_bind_record(
-        space->bounds, space->table.words, LENGTH(space->table.words), space->table.count,
-        space->operations, LENGTH(space->operations), record, bytes);
+        space->bounds, table->ranges, LENGTH(table->ranges), table->range_count, table->words,
+        LENGTH(table->words), table->count, space->operations, LENGTH(space->operations), record,
+        bytes);
     if (answer.refusal != WAYLLUQEN_OK) {
         print_refusal(answer);
         return REFUSED;
     }
     /* It is granted, so it has all its bytes. */
-    return finish(space, &before, answer, get(record + WAYLLUQEN_RECORD_ADDR),
-                  get(record + WAYLLUQEN_RECORD_RANGE));
+    uint64_t start = get(record + WAYLLUQEN_RECORD_ADDR, 8);
+    uint64_t end = start + get(record + WAYLLUQEN_RECORD_RANGE, 8);
+    bool sparse = get(record + WAYLLUQEN_RECORD_FLAGS, 4) == WAYLLUQEN_FLAG_SPARSE;
+    return finish(space, &before, answer, (struct asked){{start, end}, sparse});
 }
 
 /* Compares each page entry with look-ups of the page's first and last byte. */
@@ -336,8 +418,9 @@ static void compare(struct address_space *space)
         uint64_t byte = i % 2 * (PAGE - 1), address = START + i / 2 * PAGE + byte;
         struct entry entry = *entry_of(&space->pages, address);
         waylluqen_translation seen = look_up(space, address);
-        if (seen.refusal != WAYLLUQEN_OK || seen.object != entry.object ||
-            seen.offset != (entry.object != 0 ? entry.offset + byte : 0)) {
+        uint64_t further = entry.shown == WAYLLUQEN_SHOWN_OBJECT ? byte : 0;
+        if (seen.refusal != WAYLLUQEN_OK || seen.shown != entry.shown ||
+            seen.object != entry.object || seen.offset != entry.offset + further) {
             fail("the page entry is not what a look-up says at", address);
         }
     }
@@ -434,27 +517,30 @@ static void ask_in_vain(struct address_space *broken, const char *what)
 }
 
 /* A stray write into the table: the next call tells which mapping it hit. A count that was not kept
- * up: the next call does not take what it tells of for the whole table. */
+ * up: the next call does not take what it tells of for the whole table, or for the whole list. */
 static void ask_with_broken_table(const struct address_space *space)
 {
-    struct address_space broken = *space, forgetful = *space;
+    struct address_space broken = *space, forgetful = *space, sparse = *space;
     broken.table.words[2 * WAYLLUQEN_MAPPING_WORDS + WAYLLUQEN_MAPPING_SIZE]++;
     forgetful.table.count--;
+    sparse.table.range_count--;
     ask_in_vain(&broken, "unmap in a broken table");
     ask_in_vain(&forgetful, "unmap with a count that is too low");
+    ask_in_vain(&sparse, "unmap with a count of ranges that is too low");
 }
 
-/* Lets a request fail after no page entry, after one and so on, until it goes through. */
-static void fail_half_way(struct address_space *space, bool by_record, waylluqen_request request)
+/* Lets a request fail after no page entry, after one and so on, until it goes through. It comes by
+ * numbers, or by a record where there is one. */
+static void fail_half_way(struct address_space *space, const uint8_t *record,
+                          waylluqen_request request)
 {
     struct table before = space->table;
-    uint8_t record[WAYLLUQEN_RECORD_BYTES];
     enum outcome outcome;
     uint64_t failed = 0;
-    make_record(record, request, 0);
     for (;; failed++) {
         space->pages.memory = failed;
-        outcome = by_record ? bind_record(space, record, sizeof record) : bind(space, request);
+        outcome = record == NULL ? bind(space, request)
+                                 : bind_record(space, record, WAYLLUQEN_RECORD_BYTES);
         compare(space);
         if (outcome != WENT_BACK) {
             break;
@@ -488,8 +574,55 @@ static void ask_without_memory(struct address_space *space)
         {"unmap across two", true, {WAYLLUQEN_OP_UNMAP, 0x104000, 3 * PAGE, 0, 0}},
     };
     for (size_t i = 0; i < LENGTH(asked); i++) {
+        uint8_t record[WAYLLUQEN_RECORD_BYTES];
         printf("%s, at first without memory\n", asked[i].what);
-        fail_half_way(space, asked[i].by_record, asked[i].request);
+        make_record(record, asked[i].request, 0);
+        fail_half_way(space, asked[i].by_record ? record : NULL, asked[i].request);
+    }
+}
+
+/* A sparse texture: all its addresses are reserved at once, tiles are mapped and unmapped in it,
+ * and in the end it is released. Then a range that lies over mappings, which stays. */
+enum { PLAIN = 0, SPARSE = WAYLLUQEN_FLAG_SPARSE };
+static const struct {
+    const char *what;
+    bool refused;
+    uint64_t flags;
+    waylluqen_request request;
+} for_sparse[] = {
+    {"reserve a sparse texture", false, SPARSE, {WAYLLUQEN_OP_MAP, 0x112000, 8 * PAGE, 0, 0}},
+    {"reserve its end again", true, SPARSE, {WAYLLUQEN_OP_MAP, 0x119000, 2 * PAGE, 0, 0}},
+    {"map four tiles of it", false, PLAIN, {WAYLLUQEN_OP_MAP, 0x112000, 4 * PAGE, TILES, 0}},
+    {"map across its end", false, PLAIN, {WAYLLUQEN_OP_MAP, 0x119000, 2 * PAGE, RING, 0}},
+    {"map another tile", false, PLAIN, {WAYLLUQEN_OP_MAP, 0x113000, 1 * PAGE, TILES, 0x8000}},
+    {"unmap a tile", false, PLAIN, {WAYLLUQEN_OP_UNMAP, 0x114000, 1 * PAGE, 0, 0}},
+    {"unmap across its end", false, PLAIN, {WAYLLUQEN_OP_UNMAP, 0x119000, 2 * PAGE, 0, 0}},
+    {"release it too early", true, SPARSE, {WAYLLUQEN_OP_UNMAP, 0x112000, 8 * PAGE, 0, 0}},
+    {"unmap all of it", false, PLAIN, {WAYLLUQEN_OP_UNMAP, 0x112000, 8 * PAGE, 0, 0}},
+    {"release half of it", true, SPARSE, {WAYLLUQEN_OP_UNMAP, 0x112000, 4 * PAGE, 0, 0}},
+    {"release it", false, SPARSE, {WAYLLUQEN_OP_UNMAP, 0x112000, 8 * PAGE, 0, 0}},
+    {"reserve over mappings", false, SPARSE, {WAYLLUQEN_OP_MAP, 0x103000, 7 * PAGE, 0, 0}},
+};
+
+/* By records, since only these have flags. What is carried out fails half-way first. */
+static void ask_for_sparse(struct address_space *space)
+{
+    for (size_t i = 0; i < LENGTH(for_sparse); i++) {
+        waylluqen_request request = for_sparse[i].request;
+        struct address_space before = *space;
+        uint8_t record[WAYLLUQEN_RECORD_BYTES];
+        make_record(record, request, for_sparse[i].flags);
+        if (!for_sparse[i].refused) {
+            printf("%s, at first without memory\n", for_sparse[i].what);
+            fail_half_way(space, record, request);
+            continue;
+        }
+        printf("%s\n", for_sparse[i].what);
+        if (bind_record(space, record, sizeof record) != REFUSED ||
+            memcmp(space, &before, sizeof before) != 0) {
+            fail("a sparse range was not left as it is at", request.address);
+        }
+        compare(space);
     }
 }
 
@@ -504,27 +637,33 @@ static void print_space(const struct address_space *space)
                end_of(mapping), mapping[WAYLLUQEN_MAPPING_SIZE] / PAGE,
                name_of(mapping[WAYLLUQEN_MAPPING_OBJECT]), mapping[WAYLLUQEN_MAPPING_OFFSET]);
     }
+    for (uint64_t i = 0; i < space->table.range_count; i++) {
+        const uint64_t *range = space->table.ranges + i * WAYLLUQEN_RANGE_WORDS;
+        uint64_t start = range[WAYLLUQEN_RANGE_START], size = range[WAYLLUQEN_RANGE_SIZE];
+        printf(HEX "  " HEX "  %5" PRIu64 "  (sparse)\n", start, start + size, size / PAGE);
+    }
     printf(HEX "  " HEX "  %5" PRIu64 "  (reserved)\n", bounds.reserved_start,
            bounds.reserved_start + bounds.reserved_size, bounds.reserved_size / PAGE);
 }
 
 int main(void)
 {
-    static const uint64_t addresses[] = {0x100fff, 0x102010, 0x105000, 0x108000};
+    static const uint64_t addresses[] = {0x100fff, 0x102010, 0x105000, 0x108000, 0x10c000};
     struct address_space space = {.bounds = {START, PAGES * PAGE, START + 14 * PAGE, 2 * PAGE},
                                   .pages.memory = PLENTY};
     ask(&space);
     ask_by_record(&space);
-    ask_with_broken_table(&space);
     ask_without_memory(&space);
+    ask_for_sparse(&space);
+    ask_with_broken_table(&space);
     print_space(&space);
     for (size_t i = 0; i < LENGTH(addresses); i++) {
         waylluqen_translation seen = look_up(&space, addresses[i]);
-        printf(HEX " shows ", addresses[i]);
+        printf(HEX, addresses[i]);
         if (seen.shown == WAYLLUQEN_SHOWN_OBJECT) {
-            printf("%s+" HEX, name_of(seen.object), seen.offset);
+            printf(" shows %s+" HEX, name_of(seen.object), seen.offset);
         } else {
-            printf("nothing");
+            printf(seen.shown == WAYLLUQEN_SHOWN_SPARSE ? " is sparse" : " shows nothing");
         }
         printf(" up to " HEX "\n", addresses[i] + seen.bytes);
     }

@@ -6,7 +6,7 @@
  */
 #include "waylluqen.h"
 
-enum { CAPACITY = 8 };
+enum { CAPACITY = 8, RANGES = 2 };
 
 /* What a program starts with, x86-64 Linux: a stack that is aligned as a call expects. */
 __asm__(".globl _start\n"
@@ -29,20 +29,68 @@ void *memset(void *to, int byte, size_t bytes)
     return to;
 }
 
-/* In the hole, up to what is left behind it; in that, up to its end; with a count too low. */
-static int look_up(waylluqen_space space, const uint64_t *table, size_t table_words, uint64_t count)
+static uint64_t table[WAYLLUQEN_TABLE_WORDS(CAPACITY)];
+static uint64_t ranges[WAYLLUQEN_RANGE_LIST_WORDS(RANGES)];
+static uint64_t operations[WAYLLUQEN_OPERATION_LIST_WORDS(CAPACITY)];
+static const size_t table_words = WAYLLUQEN_TABLE_WORDS(CAPACITY);
+static const size_t range_words = WAYLLUQEN_RANGE_LIST_WORDS(RANGES);
+static const size_t operation_words = WAYLLUQEN_OPERATION_LIST_WORDS(CAPACITY);
+static const waylluqen_space space = {0x100000, 0x100000, 0, 0};
+
+static waylluqen_answer bind_record(uint64_t range_count, uint64_t count, const uint8_t *record)
 {
-    waylluqen_translation seen = waylluqen_lookup(space, table, table_words, count, 0x101ff8);
+    return waylluqen_bind_record(space, ranges, range_words, range_count, table, table_words, count,
+                                 operations, operation_words, record, WAYLLUQEN_RECORD_BYTES);
+}
+
+/* In the hole, up to what is left behind it; in that, up to its end; with a count too low. */
+static int look_up(uint64_t count)
+{
+    waylluqen_translation seen =
+        waylluqen_lookup(space, ranges, range_words, 0, table, table_words, count, 0x101ff8);
     if (seen.refusal != WAYLLUQEN_OK || seen.shown != WAYLLUQEN_SHOWN_NOTHING || seen.bytes != 8) {
         return __LINE__;
     }
-    seen = waylluqen_lookup(space, table, table_words, count, 0x102008);
+    seen = waylluqen_lookup(space, ranges, range_words, 0, table, table_words, count, 0x102008);
     if (seen.refusal != WAYLLUQEN_OK || seen.shown != WAYLLUQEN_SHOWN_OBJECT || seen.object != 7 ||
         seen.offset != 0x2008 || seen.bytes != 0xff8) {
         return __LINE__;
     }
-    seen = waylluqen_lookup(space, table, table_words, count - 1, 0x102008);
+    seen = waylluqen_lookup(space, ranges, range_words, 0, table, table_words, count - 1, 0x102008);
     if (seen.refusal != WAYLLUQEN_REFUSED_STALE_WORDS || seen.bytes != 0) {
+        return __LINE__;
+    }
+    return 0;
+}
+
+/* A sparse range over the hole and what is left on both sides of it, and a page more. It can't be
+ * removed, since mappings are in it. */
+static int make_sparse(uint64_t count)
+{
+    uint8_t sparse[WAYLLUQEN_RECORD_BYTES] = {WAYLLUQEN_OP_MAP};
+    waylluqen_answer answer;
+    waylluqen_translation seen;
+
+    sparse[WAYLLUQEN_RECORD_FLAGS + 1] = WAYLLUQEN_FLAG_SPARSE >> 8;
+    sparse[WAYLLUQEN_RECORD_ADDR + 2] = 0x10;
+    sparse[WAYLLUQEN_RECORD_RANGE + 1] = 0x40;
+    answer = bind_record(0, count, sparse);
+    if (answer.refusal != WAYLLUQEN_OK || answer.operations != 0 || answer.count != count ||
+        answer.ranges != 1 || ranges[WAYLLUQEN_RANGE_START] != 0x100000 ||
+        ranges[WAYLLUQEN_RANGE_SIZE] != 0x4000) {
+        return __LINE__;
+    }
+    seen = waylluqen_lookup(space, ranges, range_words, 1, table, table_words, count, 0x101ff8);
+    if (seen.refusal != WAYLLUQEN_OK || seen.shown != WAYLLUQEN_SHOWN_SPARSE || seen.bytes != 8) {
+        return __LINE__;
+    }
+    seen = waylluqen_lookup(space, ranges, range_words, 1, table, table_words, count, 0x103000);
+    if (seen.shown != WAYLLUQEN_SHOWN_SPARSE || seen.bytes != 0x1000) {
+        return __LINE__;
+    }
+    sparse[WAYLLUQEN_RECORD_OP] = WAYLLUQEN_OP_UNMAP;
+    answer = bind_record(1, count, sparse);
+    if (answer.refusal != WAYLLUQEN_REFUSED_NO_SUCH_RANGE || answer.ranges != 1) {
         return __LINE__;
     }
     return 0;
@@ -50,16 +98,13 @@ static int look_up(waylluqen_space space, const uint64_t *table, size_t table_wo
 
 int run(void)
 {
-    static uint64_t table[WAYLLUQEN_TABLE_WORDS(CAPACITY)];
-    static uint64_t operations[WAYLLUQEN_OPERATION_LIST_WORDS(CAPACITY)];
-    const size_t table_words = WAYLLUQEN_TABLE_WORDS(CAPACITY);
-    const size_t operation_words = WAYLLUQEN_OPERATION_LIST_WORDS(CAPACITY);
-    const waylluqen_space space = {0x100000, 0x100000, 0, 0};
     const waylluqen_request map = {WAYLLUQEN_OP_MAP, 0x100000, 0x3000, 7, 0};
     uint8_t hole[WAYLLUQEN_RECORD_BYTES] = {WAYLLUQEN_OP_UNMAP};
     waylluqen_answer answer;
+    int line;
 
-    answer = waylluqen_bind(space, table, table_words, 0, operations, operation_words, map);
+    answer = waylluqen_bind(space, ranges, range_words, 0, table, table_words, 0, operations,
+                            operation_words, map);
     if (answer.refusal != WAYLLUQEN_OK || answer.operations != 1 || answer.count != 1) {
         return __LINE__;
     }
@@ -71,11 +116,11 @@ int run(void)
     if (waylluqen_check_request(hole, sizeof hole, space.start, space.size, 0, 0) != WAYLLUQEN_OK) {
         return __LINE__;
     }
-    answer = waylluqen_bind_record(space, table, table_words, 1, operations, operation_words, hole,
-                                   sizeof hole);
+    answer = bind_record(0, 1, hole);
     if (answer.refusal != WAYLLUQEN_OK || answer.operations != 1 || answer.count != 2 ||
         operations[WAYLLUQEN_OPERATION_KIND] != WAYLLUQEN_KIND_REMAP) {
         return __LINE__;
     }
-    return look_up(space, table, table_words, answer.count);
+    line = look_up(answer.count);
+    return line != 0 ? line : make_sparse(answer.count);
 }

@@ -25,13 +25,18 @@ SAME(WAYLLUQEN_REFUSED_BAD_RECORD_LENGTH, 12);
 SAME(WAYLLUQEN_REFUSED_BAD_OP, 13);
 SAME(WAYLLUQEN_REFUSED_BAD_FLAGS, 14);
 SAME(WAYLLUQEN_REFUSED_STALE_WORDS, 17);
+SAME(WAYLLUQEN_REFUSED_BAD_RANGES, 18);
+SAME(WAYLLUQEN_REFUSED_RANGE_OVERLAPS, 19);
+SAME(WAYLLUQEN_REFUSED_NO_SUCH_RANGE, 20);
 
-/* The list has a text for each refusal: 1 to 14, and 17. */
+/* The list has a text for each refusal: 1 to 14, and 17 to 20. */
 #define TEXT(refusal, text) +(sizeof(text) > 1 ? (1u << (refusal)) : 0)
-typedef char texts[(WAYLLUQEN_REFUSALS(TEXT)) == (1u << 15) - 2 + (1u << 17) ? 1 : -1];
+typedef char texts[(WAYLLUQEN_REFUSALS(TEXT)) == (1u << 15) - 2 + (15u << 17) ? 1 : -1];
 
 SAME(WAYLLUQEN_OP_MAP, 0);
 SAME(WAYLLUQEN_OP_UNMAP, 1);
+
+SAME(WAYLLUQEN_FLAG_SPARSE, 1 << 8);
 
 SAME(WAYLLUQEN_KIND_MAP, 0);
 SAME(WAYLLUQEN_KIND_REMAP, 1);
@@ -39,13 +44,17 @@ SAME(WAYLLUQEN_KIND_UNMAP, 2);
 
 SAME(WAYLLUQEN_SHOWN_NOTHING, 0);
 SAME(WAYLLUQEN_SHOWN_OBJECT, 1);
+SAME(WAYLLUQEN_SHOWN_SPARSE, 2);
 
-/* The words of a mapping and of an operation, one behind the other. */
+/* The words of a mapping, of a sparse range and of an operation, one behind the other. */
 SAME(WAYLLUQEN_MAPPING_ADDRESS, 0);
 SAME(WAYLLUQEN_MAPPING_SIZE, 1);
 SAME(WAYLLUQEN_MAPPING_OBJECT, 2);
 SAME(WAYLLUQEN_MAPPING_OFFSET, 3);
 SAME(WAYLLUQEN_MAPPING_WORDS, 4);
+SAME(WAYLLUQEN_RANGE_START, 0);
+SAME(WAYLLUQEN_RANGE_SIZE, 1);
+SAME(WAYLLUQEN_RANGE_WORDS, 2);
 SAME(WAYLLUQEN_OPERATION_KIND, 0);
 SAME(WAYLLUQEN_OPERATION_KEEP, 1);
 SAME(WAYLLUQEN_OPERATION_MAPPING, 2);
@@ -65,12 +74,14 @@ SAME(WAYLLUQEN_RECORD_BYTES, 4 * 4 + 3 * 8);
 
 SAME(WAYLLUQEN_PAGE_SIZE, 4096);
 SAME(WAYLLUQEN_MAX_MAPPINGS, 4096);
+SAME(WAYLLUQEN_MAX_RANGES, 64);
 SAME(WAYLLUQEN_LIMIT, 281474976710656ull);
 SAME(WAYLLUQEN_MAX_OBJECT, 4294967295ull);
 
-/* The longest table has 16,384 words. */
+/* The longest table has 16,384 words, the longest list of sparse ranges 128. */
 typedef char longest_table[WAYLLUQEN_TABLE_WORDS(WAYLLUQEN_MAX_MAPPINGS) == 16384 ? 1 : -1];
 typedef char longest_list[WAYLLUQEN_OPERATION_LIST_WORDS(4095 + 1) == 4097 * 14 ? 1 : -1];
+typedef char longest_ranges[WAYLLUQEN_RANGE_LIST_WORDS(63 + 1) == 128 ? 1 : -1];
 
 LONG(waylluqen_space, 4);
 AT(waylluqen_space, start, 0);
@@ -85,11 +96,12 @@ AT(waylluqen_request, size, 2);
 AT(waylluqen_request, object, 3);
 AT(waylluqen_request, offset, 4);
 
-LONG(waylluqen_answer, 4);
+LONG(waylluqen_answer, 5);
 AT(waylluqen_answer, refusal, 0);
 AT(waylluqen_answer, place, 1);
 AT(waylluqen_answer, operations, 2);
 AT(waylluqen_answer, count, 3);
+AT(waylluqen_answer, ranges, 4);
 
 LONG(waylluqen_translation, 6);
 AT(waylluqen_translation, refusal, 0);

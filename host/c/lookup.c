@@ -6,14 +6,15 @@
 #include <stdio.h>
 #include <string.h>
 
-#include "support.h"
+#include "lists.h"
 
-/* The most mappings that a case writes out. */
+/* The most mappings and ranges that a case writes out. */
 #define MOST_WRITTEN 5
+#define NUMBER(cases) (sizeof(cases) / sizeof(cases)[0])
 
 _Static_assert(sizeof(waylluqen_translation) == 48, "six words, without a gap");
 
-/* Table, count and address of a look-up in a space, and the answer. */
+/* Table, count and address of a look-up in a space without sparse ranges, and the answer. */
 struct test_case {
     const char *name;
     waylluqen_translation expected;
@@ -27,6 +28,7 @@ struct test_case {
 /* What an address shows, and for how many bytes. */
 #define SHOWS(object, offset, bytes) {0, 0, WAYLLUQEN_SHOWN_OBJECT, object, offset, bytes}
 #define NOTHING(bytes) {0, 0, WAYLLUQEN_SHOWN_NOTHING, 0, 0, bytes}
+#define SPARSE(bytes) {0, 0, WAYLLUQEN_SHOWN_SPARSE, 0, 0, bytes}
 #define OUTSIDE NOTHING(0)
 #define REFUSED(number) {number, 0, 0, 0, 0, 0}
 #define BAD_PLACE(place) {WAYLLUQEN_REFUSED_BAD_MAPPING, place, 0, 0, 0, 0}
@@ -385,27 +387,161 @@ static const struct row rows[] = {
     {"no mapping, and all is reserved", ALL_RESERVED, 0, 0, 0, 0},
 };
 
-static struct lent lent;
+/* An address in a space that has mappings and sparse ranges, and the answer. */
+struct sparse_case {
+    const char *name;
+    waylluqen_translation expected;
+    waylluqen_space space;
+    uint64_t address;
+    uint64_t count;
+    struct mapping table[MOST_WRITTEN];
+    uint64_t range_count;
+    struct range ranges[MOST_WRITTEN];
+};
 
-#define READ_AND_WRITE (PROT_READ | PROT_WRITE)
+/* Over the first and the second and two pages more, with one that touches; up to the third; from
+ * behind the fourth to the space's end, over the last. */
+#define AROUND_FIVE \
+    4, {{0x101000, 0x4000}, {0x105000, 0x1000}, {0x108000, 0x37000}, {0x190000, 0x70000}}
+#define UNDER_FIVE(name, expected, address) {name, expected, COMMON, address, 5, FIVE, AROUND_FIVE}
+/* No mapping: one in the middle, one on each side of the reservation, the last page. */
+#define FOUR_APART \
+    4, {{0x110000, 0x1000}, {0x13f000, 0x1000}, {0x180000, 0x1000}, {0x1ff000, 0x1000}}
+#define UNMAPPED(name, expected, address) \
+    {name, expected, COMMON, address, 0, {NONE}, FOUR_APART}
+/* A mapping inside a range, or a range inside a mapping. */
+#define WIDE 0x110000, 0x10000
+#define NARROW 0x114000, 0x1000
+#define IN_RANGE(name, expected, address) \
+    {name, expected, COMMON, address, 1, {{NARROW, 7, 0}}, 1, {{WIDE}}}
+#define OVER_RANGE(name, expected, address) \
+    {name, expected, COMMON, address, 1, {{WIDE, 7, 0}}, 1, {{NARROW}}}
+/* One range is the whole space. */
+#define ALL_SPARSE(name, expected, space, address, ...) \
+    {name, expected, space, address, 0, {NONE}, 1, {{__VA_ARGS__}}}
 
-/* Lets the memory be read, or written too. Answers 0 where that can't be done. */
-static int allow(int what)
+static const struct sparse_case sparse_cases[] = {
+    /* Each edge: the last byte before it, the first behind it, and the second. */
+    UNDER_FIVE("one before the space, sparse", OUTSIDE, 0xfffff),
+    UNDER_FIVE("a range starts inside a mapping", SHOWS(7, 0x3000, 0x2000), 0x100000),
+    UNDER_FIVE("one before it starts", SHOWS(7, 0x3fff, 0x1001), 0x100fff),
+    UNDER_FIVE("where it starts", SHOWS(7, 0x4000, 0x1000), 0x101000),
+    UNDER_FIVE("over a mapping", SHOWS(8, 0, 0x1000), 0x102000),
+    UNDER_FIVE("last byte of the mapping", SHOWS(8, 0xfff, 1), 0x102fff),
+    UNDER_FIVE("behind the mapping, sparse", SPARSE(0x2000), 0x103000),
+    UNDER_FIVE("second byte, sparse", SPARSE(0x1fff), 0x103001),
+    UNDER_FIVE("a page further, sparse", SPARSE(0x1000), 0x104000),
+    UNDER_FIVE("last byte before one that touches", SPARSE(1), 0x104fff),
+    UNDER_FIVE("first byte of one that touches", SPARSE(0x1000), 0x105000),
+    UNDER_FIVE("second byte of one that touches", SPARSE(0xfff), 0x105001),
+    UNDER_FIVE("last byte before a gap", SPARSE(1), 0x105fff),
+    UNDER_FIVE("first byte of a gap, up to a range", NOTHING(0x2000), 0x106000),
+    UNDER_FIVE("last byte of a gap", NOTHING(1), 0x107fff),
+    UNDER_FIVE("up to a mapping that touches", SPARSE(0x37000), 0x108000),
+    UNDER_FIVE("last byte before the mapping", SPARSE(1), 0x13efff),
+    UNDER_FIVE("the mapping that touches", SHOWS(HIGHEST_OBJECT, 0x1000, 0x1000), 0x13f000),
+    UNDER_FIVE("reserved, no range", NOTHING(0x40000), 0x140000),
+    UNDER_FIVE("behind a mapping, no range", NOTHING(0xf000), 0x181000),
+    UNDER_FIVE("last byte before the last range", NOTHING(1), 0x18ffff),
+    UNDER_FIVE("the last range, up to a mapping in it", SPARSE(0x6f000), 0x190000),
+    UNDER_FIVE("last byte before the mapping in it", SPARSE(1), 0x1fefff),
+    UNDER_FIVE("the mapping in it", SHOWS(9, LIMIT - PAGE, 0x1000), 0x1ff000),
+    UNDER_FIVE("last byte of the space", SHOWS(9, LIMIT - 1, 1), 0x1fffff),
+    UNDER_FIVE("end of the space, sparse", OUTSIDE, 0x200000),
+    UNDER_FIVE("a sparse byte and 2^32", OUTSIDE, BIT_32 + 0x103000),
+    UNDER_FIVE("a sparse byte and 2^63", OUTSIDE, HALF + 0x103000),
+    UNDER_FIVE("highest address, sparse", OUTSIDE, UINT64_MAX),
+
+    UNMAPPED("up to the first range", NOTHING(0x10000), 0x100000),
+    UNMAPPED("one before the first range", NOTHING(1), 0x10ffff),
+    UNMAPPED("the first range", SPARSE(0x1000), 0x110000),
+    UNMAPPED("last byte of the first range", SPARSE(1), 0x110fff),
+    UNMAPPED("behind the first range", NOTHING(0x2e000), 0x111000),
+    UNMAPPED("up to the reservation", SPARSE(0x1000), 0x13f000),
+    UNMAPPED("first reserved byte", NOTHING(0x40000), 0x140000),
+    UNMAPPED("last reserved byte", NOTHING(1), 0x17ffff),
+    UNMAPPED("from the reservation on", SPARSE(0x1000), 0x180000),
+    UNMAPPED("up to the last range", NOTHING(0x7e000), 0x181000),
+    UNMAPPED("the last page, sparse", SPARSE(0x1000), 0x1ff000),
+    UNMAPPED("the last byte, sparse", SPARSE(1), 0x1fffff),
+    UNMAPPED("behind all ranges", OUTSIDE, 0x200000),
+
+    IN_RANGE("before the range", NOTHING(0x10000), 0x100000),
+    IN_RANGE("up to the mapping in a range", SPARSE(0x4000), 0x110000),
+    IN_RANGE("the mapping in a range", SHOWS(7, 0, 0x1000), 0x114000),
+    IN_RANGE("behind the mapping in a range", SPARSE(0xb000), 0x115000),
+    IN_RANGE("behind the range", NOTHING(0xe0000), 0x120000),
+    OVER_RANGE("up to the mapping over a range", NOTHING(0x10000), 0x100000),
+    OVER_RANGE("the mapping over a range", SHOWS(7, 0, 0x10000), 0x110000),
+    OVER_RANGE("at the range's start", SHOWS(7, 0x4000, 0xc000), 0x114000),
+    OVER_RANGE("at the range's end", SHOWS(7, 0x5000, 0xb000), 0x115000),
+    OVER_RANGE("behind the mapping over a range", NOTHING(0xe0000), 0x120000),
+    {"a mapping is the range", SHOWS(7, 0, 0x1000), COMMON, 0x114000, 1, {{NARROW, 7, 0}}, 1,
+     {{NARROW}}},
+    {"behind what is both", NOTHING(0xeb000), COMMON, 0x115000, 1, {{NARROW, 7, 0}}, 1, {{NARROW}}},
+    {"a range touches a mapping from above", SPARSE(0x1000), COMMON, 0x115000, 1, {{NARROW, 7, 0}},
+     1, {{0x115000, 0x1000}}},
+    {"a mapping touches a range from above", SPARSE(0x1000), COMMON, 0x113000, 1, {{NARROW, 7, 0}},
+     1, {{0x113000, 0x1000}}},
+    {"a mapping starts behind a range's end", NOTHING(0x2000), COMMON, 0x112000, 1,
+     {{NARROW, 7, 0}}, 1, {{0x111000, 0x1000}}},
+    {"a range starts behind a mapping's end", NOTHING(0x2000), COMMON, 0x115000, 1,
+     {{NARROW, 7, 0}}, 1, {{0x117000, 0x1000}}},
+    {"a mapping starts in the next range", SPARSE(0x1000), COMMON, 0x113000, 1, {{NARROW, 7, 0}}, 2,
+     {{0x112000, 0x2000}, {0x114000, 0x2000}}},
+
+    ALL_SPARSE("all sparse, first byte", SPARSE(0x100000), FREE, 0x100000, 0x100000, 0x100000),
+    ALL_SPARSE("all sparse, last byte", SPARSE(1), FREE, 0x1fffff, 0x100000, 0x100000),
+    ALL_SPARSE("all sparse, behind it", OUTSIDE, FREE, 0x200000, 0x100000, 0x100000),
+    ALL_SPARSE("all there is, sparse", SPARSE(LIMIT), WIDEST, 0, 0, LIMIT),
+    ALL_SPARSE("all there is, last byte sparse", SPARSE(1), WIDEST, LIMIT - 1, 0, LIMIT),
+    ALL_SPARSE("all there is, behind it", OUTSIDE, WIDEST, LIMIT, 0, LIMIT),
+    ALL_SPARSE("up to the last page of all", NOTHING(LIMIT - PAGE), WIDEST, 0, LIMIT - PAGE, PAGE),
+};
+
+static struct lent lent_ranges;
+static struct lent lent_table;
+
+/* One look-up: what is lent, and the answer. */
+struct call {
+    const char *name;
+    waylluqen_translation expected;
+    waylluqen_space space;
+    uint64_t address;
+    uint64_t range_count;
+    size_t range_words;
+    uint64_t count;
+    size_t table_words;
+};
+
+/* Lets all memory be read, or written too. Answers 0 where that can't be done. */
+static int allow_all(int what)
 {
-    return mprotect(lent.memory, lent.bytes, what) == 0;
+    return allow(&lent_ranges, what) && allow(&lent_table, what);
 }
+
+/* Where the words of a call are. */
+struct words {
+    const uint64_t *ranges;
+    const uint64_t *table;
+};
+
+enum { TABLE_AT_BACK = 1, RANGES_AT_BACK = 2, WAYS = 4 };
 
 /*
  * Lends the words at the front or at the back of the memory, which is read-only: a write ends the
- * test too. Answers NULL where it can't be done.
+ * test too. Answers no words where it can't be done.
  */
-static const uint64_t *lend_to_read(const uint64_t *words, size_t table_words, int at_back)
+static struct words lend_to_read(const struct call *call, struct words words, int way)
 {
-    if (!allow(READ_AND_WRITE)) {
-        return NULL;
+    const struct words none = {NULL, NULL};
+    if (!allow_all(READ_AND_WRITE)) {
+        return none;
     }
-    const uint64_t *table = lend(&lent, words, table_words, at_back);
-    return allow(PROT_READ) ? table : NULL;
+    words.ranges =
+        lend(&lent_ranges, words.ranges, call->range_words, (way & RANGES_AT_BACK) != 0);
+    words.table = lend(&lent_table, words.table, call->table_words, (way & TABLE_AT_BACK) != 0);
+    return allow_all(PROT_READ) ? words : none;
 }
 
 static void print_answer(const char *what, waylluqen_translation answer)
@@ -422,70 +558,96 @@ static int is_same(waylluqen_translation one, waylluqen_translation other)
            one.object == other.object && one.offset == other.offset && one.bytes == other.bytes;
 }
 
-static waylluqen_translation look_up(const struct test_case *test, const uint64_t *table)
+static waylluqen_translation look_up(const struct call *call, struct words words)
 {
-    return waylluqen_lookup(test->space, table, test->table_words, test->count, test->address);
+    return waylluqen_lookup(call->space, words.ranges, call->range_words, call->range_count,
+                            words.table, call->table_words, call->count, call->address);
 }
 
 /* Answers 1 where the library's answer is not the expected one. */
-static int is_wrong(const struct test_case *test, const uint64_t *table)
+static int is_wrong(const struct call *call, struct words words)
 {
-    waylluqen_translation answer = look_up(test, table);
-    if (is_same(answer, test->expected)) {
+    waylluqen_translation answer = look_up(call, words);
+    if (is_same(answer, call->expected)) {
         return 0;
     }
-    printf("host/c: %s, at %#" PRIx64 "\n", test->name, test->address);
-    print_answer("expected", test->expected);
+    printf("host/c: %s, at %#" PRIx64 "\n", call->name, call->address);
+    print_answer("expected", call->expected);
     print_answer("answered", answer);
     return 1;
 }
 
 /* Answers 1 where the library's answer is not the expected one. The words may lie anywhere. */
-static int differs(const struct test_case *test, const uint64_t *words)
+static int differs(const struct call *call, struct words words)
 {
-    for (int at_back = 0; at_back <= 1; at_back++) {
-        const uint64_t *table = lend_to_read(words, test->table_words, at_back);
-        if (table == NULL) {
-            printf("host/c: %s: mprotect failed\n", test->name);
+    for (int way = 0; way < WAYS; way++) {
+        struct words given = lend_to_read(call, words, way);
+        if (given.table == NULL) {
+            printf("host/c: %s: mprotect failed\n", call->name);
             return 1;
         }
-        if (is_wrong(test, table)) {
+        if (is_wrong(call, given)) {
             return 1;
         }
     }
     return 0;
 }
 
+/* Without a list; and with one that has a word behind its last range that is not 0, which comes
+ * behind all other refusals. */
+static int differs_with_lists(struct call call, const uint64_t *table)
+{
+    static const uint64_t stale[2 * RANGE_WORDS] = {0, 0, 0, 1};
+    struct words words = {stale, table};
+    if (differs(&call, words)) {
+        return 1;
+    }
+    call.range_words = NUMBER(stale);
+    if (call.expected.refusal == WAYLLUQEN_OK) {
+        call.expected = (waylluqen_translation)REFUSED(18);
+    }
+    return differs(&call, words);
+}
+
 /* As it is; and with stale words behind the count, as far as there are words: everywhere, the first
- * alone, the last alone. They come behind all other refusals. */
+ * alone, the last alone. They come behind all other refusals but for the list's. */
 static int run_case(const struct test_case *test)
 {
     static uint64_t words[LONGEST_TABLE];
-    struct test_case stale = *test;
+    struct call call = {.name = test->name,
+                        .expected = test->expected,
+                        .space = test->space,
+                        .address = test->address,
+                        .count = test->count,
+                        .table_words = test->table_words};
     size_t first = test->count * MAPPING_WORDS, end = test->table_words;
     const size_t places[][2] = {{first, end}, {first, first + 1}, {end - 1, end}};
-    if (test->expected.refusal == WAYLLUQEN_OK) {
-        stale.expected = (waylluqen_translation)REFUSED(17);
-    }
     memset(words, 0, sizeof words);
     memcpy(words, test->table, sizeof test->table);
-    int wrong = differs(test, words);
+    int wrong = differs_with_lists(call, words);
     if (test->count >= end / MAPPING_WORDS) {
         return wrong;
     }
-    for (size_t i = 0; i < sizeof places / sizeof places[0] && !wrong; i++) {
+    if (test->expected.refusal == WAYLLUQEN_OK) {
+        call.expected = (waylluqen_translation)REFUSED(17);
+    }
+    for (size_t i = 0; i < NUMBER(places) && !wrong; i++) {
         memset(words + first, 0, (end - first) * sizeof *words);
         memset(words + places[i][0], UNWRITTEN_BYTE,
                (places[i][1] - places[i][0]) * sizeof *words);
-        wrong = differs(&stale, words);
+        wrong = differs_with_lists(call, words);
     }
     return wrong;
 }
 
 static int run_full_case(const struct full_case *full)
 {
-    struct test_case test = {full->name, full->expected, WIDEST, full->address,
-                             FULL(MOST_MAPPINGS), {{0}}};
+    struct call call = {.name = full->name,
+                        .expected = full->expected,
+                        .space = WIDEST,
+                        .address = full->address,
+                        .count = MOST_MAPPINGS,
+                        .table_words = MOST_MAPPINGS * MAPPING_WORDS};
     static struct mapping table[MOST_MAPPINGS];
     for (size_t place = 0; place < MOST_MAPPINGS; place++) {
         table[place].address = place * PAGE;
@@ -493,9 +655,32 @@ static int run_full_case(const struct full_case *full)
         table[place].object = place == full->bad_place ? 0 : place + 1;
         table[place].offset = place * 2 * PAGE;
     }
-    static uint64_t words[MOST_MAPPINGS * MAPPING_WORDS];
-    memcpy(words, table, sizeof words);
-    return differs(&test, words);
+    return differs_with_lists(call, (const uint64_t *)(const void *)table);
+}
+
+/* With as much room as there are mappings and ranges, and with room for more: zeros are behind. */
+static int run_sparse(const struct sparse_case *test)
+{
+    uint64_t table[(MOST_WRITTEN + 1) * MAPPING_WORDS] = {0};
+    uint64_t ranges[MOST_RANGES * RANGE_WORDS] = {0};
+    const struct words words = {ranges, table};
+    const size_t capacity = test->count > 0 ? test->count : 1;
+    struct call call = {.name = test->name,
+                        .expected = test->expected,
+                        .space = test->space,
+                        .address = test->address,
+                        .range_count = test->range_count,
+                        .range_words = test->range_count * RANGE_WORDS,
+                        .count = test->count,
+                        .table_words = capacity * MAPPING_WORDS};
+    memcpy(table, test->table, sizeof test->table);
+    memcpy(ranges, test->ranges, sizeof test->ranges);
+    if (differs(&call, words)) {
+        return 1;
+    }
+    call.table_words = NUMBER(table);
+    call.range_words = NUMBER(ranges);
+    return differs(&call, words);
 }
 
 static void fill_row(const struct row *row, struct mapping *mappings)
@@ -506,99 +691,161 @@ static void fill_row(const struct row *row, struct mapping *mappings)
     }
 }
 
-/* What a look-up in a table that keeps its rules should answer: all mappings are looked at. */
-static waylluqen_translation foresee(const struct test_case *test, const struct mapping *mappings)
+/* Mappings and ranges of a space, as a look-up in them is foreseen. */
+struct layout {
+    struct mapping mappings[MOST_MAPPINGS];
+    struct range ranges[MOST_RANGES];
+};
+
+/* Brings the distance down to an edge that is behind the address. */
+static void stop_at(waylluqen_translation *seen, uint64_t address, uint64_t edge)
 {
-    const uint64_t address = test->address, end = test->space.start + test->space.size;
+    if (address < edge && edge - address < seen->bytes) {
+        seen->bytes = edge - address;
+    }
+}
+
+/* What a look-up should answer where table and list keep their rules: all of them are looked at. */
+static waylluqen_translation foresee(const struct call *call, const struct layout *layout)
+{
+    const uint64_t address = call->address, end = call->space.start + call->space.size;
     waylluqen_translation expected = OUTSIDE;
-    if (address < test->space.start || address >= end) {
+    if (address < call->space.start || address >= end) {
         return expected;
     }
     expected.bytes = end - address;
-    for (size_t place = test->count; place-- > 0;) {
-        const struct mapping *mapping = &mappings[place];
-        if (address < mapping->address) {
-            expected.bytes = mapping->address - address;
-        } else if (address < mapping->address + mapping->size) {
-            uint64_t in = address - mapping->address;
-            expected = (waylluqen_translation)SHOWS(mapping->object, mapping->offset + in,
-                                                    mapping->size - in);
+    for (size_t place = 0; place < call->range_count; place++) {
+        const struct range *range = &layout->ranges[place];
+        int is_inside = range->start <= address && address - range->start < range->size;
+        expected.shown = is_inside ? WAYLLUQEN_SHOWN_SPARSE : expected.shown;
+        stop_at(&expected, address, range->start);
+        stop_at(&expected, address, range->start + range->size);
+    }
+    for (size_t place = 0; place < call->count; place++) {
+        const struct mapping *mapping = &layout->mappings[place];
+        uint64_t in = address - mapping->address;
+        stop_at(&expected, address, mapping->address);
+        if (mapping->address <= address && in < mapping->size) {
+            return (waylluqen_translation)SHOWS(mapping->object, mapping->offset + in,
+                                                mapping->size - in);
         }
     }
     return expected;
 }
 
 /* Looks up at an edge, at the byte before it and at the one behind; before 0 is the highest. */
-static int edge_differs(struct test_case *test, const uint64_t *table,
-                        const struct mapping *mappings, uint64_t edge)
+static int edge_differs(struct call *call, struct words words, const struct layout *layout,
+                        uint64_t edge)
 {
     for (uint64_t i = 0; i < 3; i++) {
-        test->address = edge - 1 + i;
-        test->expected = foresee(test, mappings);
-        if (is_wrong(test, table)) {
+        call->address = edge - 1 + i;
+        call->expected = foresee(call, layout);
+        if (is_wrong(call, words)) {
             return 1;
         }
     }
     return 0;
 }
 
-/* The walk that the header shows: each mapping comes back whole, once and in order, each gap at
- * once, and the space's end ends it. */
-static int walk_differs(struct test_case *test, const uint64_t *table,
-                        const struct mapping *mappings)
+/* The walk that the header shows: each mapping comes back whole, once and in order, what is between
+ * them as it is foreseen, and the space's end ends it. */
+static int walk_differs(struct call *call, struct words words, const struct layout *layout)
 {
-    waylluqen_translation run, last = SHOWS(0, 0, 0);
+    waylluqen_translation run;
     size_t place = 0;
-    for (test->address = test->space.start;; test->address += run.bytes, last = run) {
-        run = look_up(test, table);
-        if (run.bytes == 0) {
+    for (call->address = call->space.start;; call->address += run.bytes) {
+        run = look_up(call, words);
+        if (run.bytes == 0 || !is_same(run, foresee(call, layout))) {
             break;
         }
-        struct mapping seen = {test->address, run.bytes, run.object, run.offset};
-        if (run.shown != WAYLLUQEN_SHOWN_OBJECT
-                ? last.shown == run.shown
-                : place == test->count || memcmp(&seen, &mappings[place++], sizeof seen) != 0) {
+        struct mapping seen = {call->address, run.bytes, run.object, run.offset};
+        if (run.shown == WAYLLUQEN_SHOWN_OBJECT &&
+            (place == call->count ||
+             memcmp(&seen, &layout->mappings[place++], sizeof seen) != 0)) {
             break;
         }
     }
-    if (test->address == test->space.start + test->space.size && place == test->count) {
+    if (call->address == call->space.start + call->space.size && place == call->count) {
         return 0;
     }
-    printf("host/c: %s: a walk ended at %#" PRIx64 ", place %zu\n", test->name, test->address,
+    printf("host/c: %s: a walk ended at %#" PRIx64 ", place %zu\n", call->name, call->address,
            place);
     return 1;
 }
 
-/* Every edge of a row and of its space, and a walk over it, with room for so many mappings. */
-static int run_row(const struct row *row, size_t capacity)
+/* Every edge of a space, of its mappings and of its ranges, and a walk over it. */
+static int run_layout(struct call *call, const struct layout *layout)
 {
-    static struct mapping mappings[MOST_MAPPINGS];
-    static uint64_t words[MOST_MAPPINGS * MAPPING_WORDS];
-    const waylluqen_space space = row->space;
+    const waylluqen_space space = call->space;
     const uint64_t edges[] = {0, LIMIT, HALF, space.start, space.start + space.size,
                               space.reserved_start, space.reserved_start + space.reserved_size};
-    struct test_case test = {.name = row->name, .space = space, .count = row->count};
-    test.table_words = capacity * MAPPING_WORDS;
-    memset(mappings, 0, sizeof mappings);
-    fill_row(row, mappings);
-    memcpy(words, mappings, sizeof words);
-    const uint64_t *table = lend_to_read(words, test.table_words, 1);
-    if (table == NULL) {
-        printf("host/c: %s: mprotect failed\n", row->name);
+    const struct words words =
+        lend_to_read(call,
+                     (struct words){(const uint64_t *)(const void *)layout->ranges,
+                                    (const uint64_t *)(const void *)layout->mappings},
+                     WAYS - 1);
+    int wrong = words.table == NULL;
+    for (size_t i = 0; i < NUMBER(edges) && !wrong; i++) {
+        wrong = edge_differs(call, words, layout, edges[i]);
+    }
+    for (size_t i = 0; i < call->count && !wrong; i++) {
+        const struct mapping *mapping = &layout->mappings[i];
+        wrong = edge_differs(call, words, layout, mapping->address) ||
+                edge_differs(call, words, layout, mapping->address + mapping->size);
+    }
+    for (size_t i = 0; i < call->range_count && !wrong; i++) {
+        const struct range *range = &layout->ranges[i];
+        wrong = edge_differs(call, words, layout, range->start) ||
+                edge_differs(call, words, layout, range->start + range->size);
+    }
+    return wrong || walk_differs(call, words, layout);
+}
+
+/* Ranges of one to three pages from an address on, the next one touching or some pages further on,
+ * but none that shares a byte with the reservation; answers how many. */
+static size_t put_scattered(struct range *to, const waylluqen_space *space, uint64_t start)
+{
+    static const uint64_t gaps[] = {0, 1, 0, 2};
+    uint64_t reserved_end = space->reserved_start + space->reserved_size;
+    size_t count = 0;
+    for (uint64_t i = 0; count < MOST_RANGES; i++) {
+        uint64_t size = (1 + i % 3) * PAGE;
+        if (start + size > space->start + space->size) {
+            break;
+        }
+        if (start + size <= space->reserved_start || reserved_end <= start) {
+            to[count++] = (struct range){start, size};
+        }
+        start += size + gaps[i % NUMBER(gaps)] * PAGE;
+    }
+    return count;
+}
+
+/* A row without ranges, with all of its space sparse, and with scattered ranges. */
+static int run_row(const struct row *row, size_t capacity)
+{
+    static struct layout layout;
+    struct call call = {.name = row->name,
+                        .space = row->space,
+                        .count = row->count,
+                        .table_words = capacity * MAPPING_WORDS};
+    memset(&layout, 0, sizeof layout);
+    fill_row(row, layout.mappings);
+    if (run_layout(&call, &layout)) {
         return 1;
     }
-    for (size_t i = 0; i < sizeof edges / sizeof edges[0]; i++) {
-        if (edge_differs(&test, table, mappings, edges[i])) {
-            return 1;
-        }
+    call.range_count = put_whole(layout.ranges, &call.space);
+    call.range_words = WHOLE_RANGES * RANGE_WORDS;
+    if (run_layout(&call, &layout)) {
+        return 1;
     }
-    for (const struct mapping *mapping = mappings; mapping < mappings + row->count; mapping++) {
-        if (edge_differs(&test, table, mappings, mapping->address) ||
-            edge_differs(&test, table, mappings, mapping->address + mapping->size)) {
-            return 1;
-        }
-    }
-    return walk_differs(&test, table, mappings);
+    /* From some pages before the first mapping on, if there are any. */
+    int has_pages = row->first >= row->space.start + 5 * PAGE;
+    uint64_t start = has_pages ? row->first - 5 * PAGE : row->space.start;
+    memset(layout.ranges, 0, sizeof layout.ranges);
+    call.range_count = put_scattered(layout.ranges, &call.space, start);
+    call.range_words = MOST_RANGES * RANGE_WORDS;
+    return run_layout(&call, &layout);
 }
 
 /* A row without room for more, and with room for some more, as far as there can be room. */
@@ -608,69 +855,170 @@ static int run_row_with_room(const struct row *row)
     return run_row(row, capacity) || (capacity < MOST_MAPPINGS && run_row(row, capacity + 19));
 }
 
-/* Looks up with each word behind the count stale in its turn, at the front or at the back of the
- * memory, which is read-only then. */
-static int stale_differs(const struct test_case *test, const uint64_t *words, int at_back)
+/* A list that is taken: its edges, without a mapping. */
+static int run_good_list(struct call *call, const struct list_case *test)
 {
-    if (!allow(READ_AND_WRITE)) {
-        printf("host/c: %s: mprotect failed\n", test->name);
-        return 1;
-    }
-    uint64_t *table = lend(&lent, words, test->table_words, at_back);
-    for (size_t at = test->count * MAPPING_WORDS; at < test->table_words; at++) {
-        table[at] = stale_word(at);
-        if (!allow(PROT_READ) || is_wrong(test, table) || !allow(READ_AND_WRITE)) {
-            printf("host/c: stale word %zu, %" PRIu64 " mappings in %zu words\n", at, test->count,
-                   test->table_words);
+    static struct layout layout;
+    memset(&layout, 0, sizeof layout);
+    memcpy(layout.ranges, test->list, sizeof test->list);
+    return run_layout(call, &layout);
+}
+
+/* A list that is refused, whatever is looked up; what is wrong with space and table comes first. */
+static int run_bad_list(struct call *call, struct words words)
+{
+    static const uint64_t ones[MAPPING_WORDS] = ONES;
+    const uint64_t addresses[] = {call->space.start, call->space.start + 0x104000, 0, LIMIT,
+                                  UINT64_MAX};
+    static const uint64_t firsts[] = {1, 2, 4, 5, 17};
+    call->expected = (waylluqen_translation)REFUSED(18);
+    for (size_t i = 0; i < NUMBER(addresses); i++) {
+        call->address = addresses[i];
+        if (differs(call, words)) {
             return 1;
         }
-        table[at] = 0;
+    }
+    words.table = ones;
+    for (size_t i = 0; i < NUMBER(firsts); i++) {
+        struct call first = *call;
+        first.space.size += firsts[i] == 1;
+        first.table_words -= firsts[i] == 2;
+        first.count = firsts[i] == 4 ? 2 : firsts[i] == 5 ? 1 : 0;
+        first.expected.refusal = firsts[i];
+        if (differs(&first, words)) {
+            return 1;
+        }
     }
     return 0;
 }
 
+static int run_list(const struct list_case *test)
+{
+    static const uint64_t no_mapping[MAPPING_WORDS];
+    uint64_t ranges[LONGEST_RANGES] = {0};
+    struct call call = {.name = test->name,
+                        .space = test->space,
+                        .range_count = test->count,
+                        .range_words = test->words,
+                        .table_words = MAPPING_WORDS};
+    memcpy(ranges, test->list, sizeof test->list);
+    return test->bad ? run_bad_list(&call, (struct words){ranges, no_mapping})
+                     : run_good_list(&call, test);
+}
+
+/* Looks up with each word of a slice from a place on stale in its turn, which is read-only then. */
+static int stale_differs(const struct call *call, struct words words, uint64_t *slice, size_t from,
+                         size_t end)
+{
+    for (size_t at = from; at < end; at++) {
+        slice[at] = stale_word(at);
+        if (!allow_all(PROT_READ) || is_wrong(call, words) || !allow_all(READ_AND_WRITE)) {
+            printf("host/c: stale word %zu, %" PRIu64 " mappings in %zu words", at, call->count,
+                   call->table_words);
+            printf(", %" PRIu64 " ranges in %zu\n", call->range_count, call->range_words);
+            return 1;
+        }
+        slice[at] = 0;
+    }
+    return 0;
+}
+
+/* Each stale word of a table, at the front and at the back of the memory. */
 static int run_stale(const struct stale_table *stale)
 {
     static struct mapping mappings[MOST_MAPPINGS];
-    static uint64_t words[MOST_MAPPINGS * MAPPING_WORDS];
-    struct test_case test = {.name = "a stale word",
-                             .expected = REFUSED(17),
-                             .space = PLACES_SPACE,
-                             .count = stale->count,
-                             .table_words = stale->capacity * MAPPING_WORDS};
+    struct call call = {.name = "a stale word",
+                        .expected = REFUSED(17),
+                        .space = PLACES_SPACE,
+                        .count = stale->count,
+                        .table_words = stale->capacity * MAPPING_WORDS};
+    const uint64_t *old = (const uint64_t *)(const void *)mappings;
     memset(mappings, 0, sizeof mappings);
     fill_places(mappings, stale->count);
-    memcpy(words, mappings, sizeof words);
-    return stale_differs(&test, words, 0) || stale_differs(&test, words, 1);
+    for (int at_back = 0; at_back <= 1; at_back++) {
+        if (!allow_all(READ_AND_WRITE)) {
+            return 1;
+        }
+        uint64_t *table = lend(&lent_table, old, call.table_words, at_back);
+        if (stale_differs(&call, (struct words){table, table}, table, call.count * MAPPING_WORDS,
+                          call.table_words)) {
+            return 1;
+        }
+    }
+    return 0;
+}
+
+/* Each stale word of a list, at the front and at the back of the memory. */
+static int run_stale_list(size_t count, size_t capacity)
+{
+    struct range ranges[MOST_RANGES] = {{0, 0}};
+    struct call call = {.name = "a stale word of a list",
+                        .expected = REFUSED(18),
+                        .space = PLACES_SPACE,
+                        .range_count = count,
+                        .range_words = capacity * RANGE_WORDS,
+                        .table_words = MAPPING_WORDS};
+    static const uint64_t no_mapping[MAPPING_WORDS];
+    for (size_t place = 0; place < count; place++) {
+        ranges[place] = (struct range){4 * place * PAGE, 4 * PAGE};
+    }
+    for (int at_back = 0; at_back <= 1; at_back++) {
+        if (!allow_all(READ_AND_WRITE)) {
+            return 1;
+        }
+        uint64_t *list = lend(&lent_ranges, (const uint64_t *)(const void *)ranges,
+                              call.range_words, at_back);
+        if (stale_differs(&call, (struct words){list, no_mapping}, list, count * RANGE_WORDS,
+                          call.range_words)) {
+            return 1;
+        }
+    }
+    return 0;
+}
+
+static int run_stale_lists(void)
+{
+    for (size_t capacity = 1; capacity <= MOST_RANGES; capacity++) {
+        for (size_t count = 0; count < capacity; count++) {
+            if (run_stale_list(count, capacity)) {
+                return 1;
+            }
+        }
+    }
+    return 0;
 }
 
 int main(void)
 {
-    const size_t count = sizeof cases / sizeof cases[0];
-    const size_t full_count = sizeof full_cases / sizeof full_cases[0];
-    const size_t row_count = sizeof rows / sizeof rows[0];
+    const size_t count = NUMBER(cases) + NUMBER(full_cases) + NUMBER(sparse_cases);
     size_t failed = 0, stale = 0;
 
-    if (!prepare(&lent, LONGEST_TABLE)) {
+    if (!prepare(&lent_ranges, LONGEST_RANGES) || !prepare(&lent_table, LONGEST_TABLE)) {
         printf("host/c: mmap failed\n");
         return 1;
     }
-    for (size_t i = 0; i < count; i++) {
+    for (size_t i = 0; i < NUMBER(cases); i++) {
         failed += (size_t)run_case(&cases[i]);
     }
-    for (size_t i = 0; i < full_count; i++) {
+    for (size_t i = 0; i < NUMBER(full_cases); i++) {
         failed += (size_t)run_full_case(&full_cases[i]);
     }
-    for (size_t i = 0; i < row_count; i++) {
+    for (size_t i = 0; i < NUMBER(sparse_cases); i++) {
+        failed += (size_t)run_sparse(&sparse_cases[i]);
+    }
+    for (size_t i = 0; i < NUMBER(rows); i++) {
         failed += (size_t)run_row_with_room(&rows[i]);
     }
-    failed += run_stale_tables(run_stale, &stale);
+    for (size_t i = 0; i < NUMBER(lists); i++) {
+        failed += (size_t)run_list(&lists[i]);
+    }
+    failed += run_stale_tables(run_stale, &stale) + (size_t)run_stale_lists();
     if (failed != 0) {
-        printf("host/c: %zu of %zu look-ups, rows and stale tables failed\n", failed,
-               count + full_count + row_count + stale);
+        printf("host/c: %zu look-ups, rows, lists and stale tables failed\n", failed);
         return 1;
     }
-    printf("host/c: %zu look-ups, the edges of %zu rows, ", count + full_count, row_count);
-    printf("and each stale word of %zu tables, passed\n", stale);
+    printf("host/c: %zu look-ups, the edges of %zu rows, %zu lists, ", count, NUMBER(rows),
+           NUMBER(lists));
+    printf("and each stale word of %zu tables and of lists, passed\n", stale);
     return 0;
 }

@@ -1,9 +1,9 @@
 /* SPDX-License-Identifier: MIT */
 /*
- * How much stack a call takes, and that it is no more where a table has more room. Each call is made on a
- * stack of its own, painted before: from the stack pointer before the arguments are pushed down to the lowest
- * byte that has changed is what it took, with all that it calls itself. The caller's own place for the answer
- * is not counted.
+ * How much stack a call takes, and that it is no more where a table has more room, with sparse ranges and without
+ * them. Each call is made on a stack of its own, painted before: from the stack pointer before the arguments are
+ * pushed down to the lowest byte that has changed is what it took, with all that it calls itself. The caller's own
+ * place for the answer is not counted.
  *
  * Link it with -z now, so that no first call of memset runs the dynamic linker on that stack.
  */
@@ -20,14 +20,17 @@
 
 #define TABLE_WORDS WAYLLUQEN_TABLE_WORDS(MOST_MAPPINGS)
 #define LIST_WORDS WAYLLUQEN_OPERATION_LIST_WORDS(MOST_MAPPINGS)
+#define LONGEST_RANGE_LIST WAYLLUQEN_RANGE_LIST_WORDS(MOST_RANGES)
 
-typedef waylluqen_answer bind_function(waylluqen_space, uint64_t *, size_t, uint64_t, uint64_t *, size_t,
-                                       waylluqen_request);
+typedef waylluqen_answer bind_function(waylluqen_space, const uint64_t *, size_t, uint64_t, uint64_t *, size_t,
+                                       uint64_t, uint64_t *, size_t, waylluqen_request);
 
 /* The call that is made: what it is given, and the refusal that it answers. */
 static struct {
     bind_function *bind;
     waylluqen_space space;
+    size_t range_words;
+    uint64_t range_count;
     size_t table_words;
     uint64_t count;
     size_t list_words;
@@ -37,7 +40,7 @@ static struct {
     uint64_t refusal;
 } call;
 
-static uint64_t table[TABLE_WORDS], list[LIST_WORDS];
+static uint64_t ranges[LONGEST_RANGE_LIST], table[TABLE_WORDS], list[LIST_WORDS];
 
 static _Alignas(64) uint8_t stack[1 << 16];
 static uint8_t *before; /* the stack pointer before the arguments are pushed */
@@ -48,22 +51,26 @@ static uint8_t *before; /* the stack pointer before the arguments are pushed */
 static void make_bind(void)
 {
     NOTE_STACK_POINTER();
-    call.refusal = call.bind(call.space, table, call.table_words, call.count, list, call.list_words, call.request)
+    call.refusal = call.bind(call.space, ranges, call.range_words, call.range_count, table, call.table_words,
+                             call.count, list, call.list_words, call.request)
                        .refusal;
 }
 
 static void make_bind_record(void)
 {
     NOTE_STACK_POINTER();
-    call.refusal = waylluqen_bind_record(call.space, table, call.table_words, call.count, list, call.list_words,
-                                         call.record, sizeof call.record)
+    call.refusal = waylluqen_bind_record(call.space, ranges, call.range_words, call.range_count, table,
+                                         call.table_words, call.count, list, call.list_words, call.record,
+                                         sizeof call.record)
                        .refusal;
 }
 
 static void make_lookup(void)
 {
     NOTE_STACK_POINTER();
-    call.refusal = waylluqen_lookup(call.space, table, call.table_words, call.count, call.address).refusal;
+    call.refusal = waylluqen_lookup(call.space, ranges, call.range_words, call.range_count, table, call.table_words,
+                                    call.count, call.address)
+                       .refusal;
 }
 
 static void make_check_request(void)
@@ -119,6 +126,7 @@ static void fill_table(size_t room, size_t count)
     call.table_words = room * MAPPING_WORDS;
     call.list_words = WAYLLUQEN_OPERATION_LIST_WORDS(room);
     call.count = count;
+    call.range_words = call.range_count = 0;
 }
 
 /* Which place a request is about; ALL is about all of them. */
@@ -183,6 +191,48 @@ static const struct test_case cases[] = {
     {11, 0, UNMAPS(MIDDLE_PLACE, 1, 2)},
 };
 
+/* A request with the sparse flag, on a list with room for 64. Place p of the list has two pages of four from the
+ * second on, over the mappings' places or behind all of them; what is asked for is in pages from the first on. */
+struct sparse_case {
+    uint64_t refusal;
+    size_t count;
+    size_t place;
+    uint64_t op;
+    uint64_t from;
+    uint64_t to;
+    enum { BEHIND_MAPPINGS, OVER_MAPPINGS } where;
+    enum { NO_BAD_RANGE, BAD_FIRST, BAD_LAST, STALE_END } fault;
+};
+
+#define ADDS WAYLLUQEN_OP_MAP, 0, 1
+#define OVERLAPS WAYLLUQEN_OP_MAP, 1, 3
+#define REMOVES WAYLLUQEN_OP_UNMAP, 1, 3
+#define GOOD BEHIND_MAPPINGS, NO_BAD_RANGE
+
+static const struct sparse_case sparse_cases[] = {
+    /* Those behind move up, or down; or there are none. */
+    {0, 63, 0, ADDS, GOOD},
+    {0, 63, 31, ADDS, GOOD},
+    {0, 63, 63, ADDS, GOOD},
+    {0, 0, 0, ADDS, GOOD},
+    {0, 63, 0, ADDS, OVER_MAPPINGS, NO_BAD_RANGE},
+    {0, 64, 0, REMOVES, GOOD},
+    {0, 64, 32, REMOVES, GOOD},
+    {0, 64, 63, REMOVES, GOOD},
+    {0, 1, 0, REMOVES, GOOD},
+    /* Refusals: of the list, of what overlaps, of what is not there or has a mapping, and for want of room. */
+    {18, 64, 0, ADDS, BEHIND_MAPPINGS, BAD_FIRST},
+    {18, 64, 0, REMOVES, BEHIND_MAPPINGS, BAD_LAST},
+    {18, 63, 0, ADDS, BEHIND_MAPPINGS, STALE_END},
+    {18, 0, 0, ADDS, BEHIND_MAPPINGS, STALE_END},
+    {19, 64, 0, OVERLAPS, GOOD},
+    {19, 64, 63, OVERLAPS, GOOD},
+    {20, 63, 63, REMOVES, GOOD},
+    {20, 64, 0, REMOVES, OVER_MAPPINGS, NO_BAD_RANGE},
+    {11, 64, 0, ADDS, GOOD},
+    {11, 64, 63, ADDS, GOOD},
+};
+
 static void fail(const char *what, const char *why, uint64_t number)
 {
     printf("host/c: stack: %s: %s %" PRIu64 "\n", what, why, number);
@@ -226,6 +276,37 @@ static void lend_case(const struct test_case *test, size_t room)
     encode(call.record, &fields);
 }
 
+/* Lends a list of so many ranges behind a page, and room for 64. */
+static void fill_list(const struct sparse_case *test, uint64_t page)
+{
+    memset(ranges, 0, sizeof ranges);
+    for (size_t place = 0; place < test->count; place++) {
+        ranges[place * RANGE_WORDS] = (page + 4 * place + 1) * PAGE;
+        ranges[place * RANGE_WORDS + WAYLLUQEN_RANGE_SIZE] = 2 * PAGE;
+    }
+    ranges[0] += test->fault == BAD_FIRST;
+    ranges[LONGEST_RANGE_LIST - 1] += test->fault == BAD_LAST || test->fault == STALE_END;
+    call.range_words = LONGEST_RANGE_LIST;
+    call.range_count = test->count;
+}
+
+/* The same for a case with the sparse flag, on a full table. By numbers it is an unmap, since there is no flag. */
+static void lend_sparse(const struct sparse_case *test, size_t room)
+{
+    uint64_t page = test->where == OVER_MAPPINGS ? 0 : 4 * (room + 1);
+    struct record fields = {.op = (uint32_t)test->op,
+                            .flags = WAYLLUQEN_FLAG_SPARSE,
+                            .address = (page + 4 * test->place + test->from) * PAGE,
+                            .size = (test->to - test->from) * PAGE};
+
+    fill_table(room, room);
+    fill_list(test, page);
+    call.space.size += 4 * MOST_RANGES * PAGE;
+    call.request = (waylluqen_request){WAYLLUQEN_OP_UNMAP, 4 * (room + 1) * PAGE, PAGE, 0, 0};
+    call.address = fields.address;
+    encode(call.record, &fields);
+}
+
 /* What the case's refusal is to each of the calls. */
 static uint64_t refusal_of(const struct test_case *test, int which)
 {
@@ -235,16 +316,37 @@ static uint64_t refusal_of(const struct test_case *test, int which)
     return is_told ? test->refusal : 0;
 }
 
+/* Only the record has the flag, and only where there is a list is there 18. */
+static uint64_t sparse_refusal_of(const struct sparse_case *test, int which)
+{
+    int is_told = which == BIND_RECORD || (which != CHECK_REQUEST && test->refusal == 18);
+    return is_told ? test->refusal : 0;
+}
+
+#define CASES (sizeof cases / sizeof cases[0])
+#define SPARSE_CASES (sizeof sparse_cases / sizeof sparse_cases[0])
+
+/* Lends what a case needs, one without the sparse flag or one with it; answers the refusal that a call gives. */
+static uint64_t lend_any(size_t i, int which, size_t room)
+{
+    if (i < CASES) {
+        lend_case(&cases[i], room);
+        return refusal_of(&cases[i], which);
+    }
+    lend_sparse(&sparse_cases[i - CASES], room);
+    return sparse_refusal_of(&sparse_cases[i - CASES], which);
+}
+
 /* The most that a call takes with room for so many mappings. Painted twice: what is written may look like paint. */
 static size_t most_of(int which, size_t room)
 {
     static const uint8_t paints[] = {0xa5, 0x5a};
     size_t most = 0;
-    for (size_t i = 0; i < sizeof cases / sizeof cases[0]; i++) {
+    for (size_t i = 0; i < CASES + SPARSE_CASES; i++) {
         for (size_t j = 0; j < sizeof paints; j++) {
-            lend_case(&cases[i], room);
+            uint64_t refusal = lend_any(i, which, room);
             size_t bytes = painted(calls[which].make, paints[j]);
-            if (call.refusal != refusal_of(&cases[i], which)) {
+            if (call.refusal != refusal) {
                 fail(calls[which].name, "another answer than expected, to case", i);
             }
             most = bytes > most ? bytes : most;
@@ -255,19 +357,23 @@ static size_t most_of(int which, size_t room)
 
 /* In place of the library: takes what is known. */
 #define KNOWN 1000
-static __attribute__((noinline)) waylluqen_answer stand_in(waylluqen_space space, uint64_t *words, size_t table_words,
-                                                           uint64_t count, uint64_t *operations,
-                                                           size_t operation_words, waylluqen_request request)
+static __attribute__((noinline)) waylluqen_answer
+stand_in(waylluqen_space space, const uint64_t *list_words, size_t range_words, uint64_t range_count,
+         uint64_t *words, size_t table_words, uint64_t count, uint64_t *operations, size_t operation_words,
+         waylluqen_request request)
 {
     volatile uint8_t taken[KNOWN];
-    taken[0] = (uint8_t)(space.start + table_words + operation_words + (words == operations));
-    return (waylluqen_answer){0, 0, request.op, count + taken[0]};
+    taken[0] = (uint8_t)(space.start + range_words + table_words + operation_words + (words == operations) +
+                         (list_words == words));
+    return (waylluqen_answer){0, 0, request.op, count + taken[0], range_count};
 }
 
-/* Space and request are pushed, and a return address; the compiler may align what it pushes and takes. */
+/* Space, request and what else the registers have no room for are pushed: three words. There is a return address
+ * too, and the compiler may align what it pushes and takes. */
 static void check_measure(void)
 {
-    const size_t least = KNOWN + sizeof(waylluqen_space) + sizeof(waylluqen_request) + sizeof(void *);
+    const size_t least = KNOWN + sizeof(waylluqen_space) + sizeof(waylluqen_request) + 3 * sizeof(uint64_t) +
+                         sizeof(void *);
     call.bind = stand_in;
     size_t bytes = painted(make_bind, UNWRITTEN_BYTE);
     if (bytes < least || bytes > least + 64) {

@@ -1,4 +1,5 @@
-/* What the tests from C share: numbers, spaces and mappings at the edges, records, lent memory. */
+/* What the tests from C share: numbers, spaces, mappings and sparse ranges at the edges, records,
+ * lent memory. */
 #ifndef SUPPORT_H
 #define SUPPORT_H
 
@@ -10,6 +11,7 @@
 #include "waylluqen.h"
 
 #define PAGE UINT64_C(4096)
+#define BIT_32 (UINT64_C(1) << 32)
 #define LIMIT (UINT64_C(1) << 48)
 #define HALF (UINT64_C(1) << 63)
 #define LAST_PAGE (UINT64_MAX - PAGE + 1)
@@ -17,8 +19,12 @@
 
 #define RECORD_BYTES 40
 #define MAPPING_WORDS WAYLLUQEN_MAPPING_WORDS
+#define RANGE_WORDS WAYLLUQEN_RANGE_WORDS
 #define MOST_MAPPINGS 4096
+#define MOST_RANGES 64
+/* Longer than they may be. */
 #define LONGEST_TABLE 20000
+#define LONGEST_RANGES 512
 
 _Static_assert(sizeof(waylluqen_space) == 32, "four words, without a gap");
 
@@ -28,6 +34,14 @@ struct mapping {
     uint64_t object;
     uint64_t offset;
 };
+
+struct range {
+    uint64_t start;
+    uint64_t size;
+};
+
+_Static_assert(sizeof(struct mapping) == MAPPING_WORDS * sizeof(uint64_t), "its words");
+_Static_assert(sizeof(struct range) == RANGE_WORDS * sizeof(uint64_t), "its words");
 
 /* The fields of a record. */
 struct record {
@@ -91,6 +105,32 @@ static inline void fill_places(struct mapping *to, size_t count)
     }
 }
 
+/* Makes all of [start, end) sparse, in two ranges that touch; answers the place behind them. */
+static inline struct range *put_sparse(struct range *to, uint64_t start, uint64_t end)
+{
+    if (start < end) {
+        *to++ = (struct range){start, PAGE};
+    }
+    if (start + PAGE < end) {
+        *to++ = (struct range){start + PAGE, end - start - PAGE};
+    }
+    return to;
+}
+
+/* Makes all of a space sparse but for its reservation; answers how many ranges that takes. There
+ * are zeros behind them. */
+#define WHOLE_RANGES 6
+static inline size_t put_whole(struct range to[WHOLE_RANGES], const waylluqen_space *space)
+{
+    uint64_t end = space->start + space->size;
+    uint64_t reserved_end = space->reserved_start + space->reserved_size;
+    int reserves = space->reserved_size != 0;
+    memset(to, 0, WHOLE_RANGES * sizeof *to);
+    struct range *next = put_sparse(to, space->start, reserves ? space->reserved_start : end);
+    next = reserves ? put_sparse(next, reserved_end, end) : next;
+    return (size_t)(next - to);
+}
+
 /* A table in which each word behind the count is stale in its turn. */
 struct stale_table {
     uint64_t count;
@@ -139,6 +179,14 @@ static inline int prepare(struct lent *lent, size_t words)
     }
     lent->memory = all + page;
     return mprotect(lent->memory, lent->bytes, PROT_READ | PROT_WRITE) == 0;
+}
+
+#define READ_AND_WRITE (PROT_READ | PROT_WRITE)
+
+/* Lets the memory be read, or written too. Answers 0 where that can't be done. */
+static inline int allow(const struct lent *lent, int what)
+{
+    return mprotect(lent->memory, lent->bytes, what) == 0;
 }
 
 /*

@@ -17,16 +17,17 @@ extern "C" {
 /**
  * DOC: Overview
  *
- * Waylluqen keeps one GPU address space as a sorted table of mappings, in memory that the caller
- * lends. waylluqen_bind() and waylluqen_bind_record() map or unmap a range: they cut what is
- * mapped there out of the table, and write the list of operations that a driver carries out on
- * its page tables. waylluqen_lookup() tells what an address shows, and how far that goes on.
+ * Waylluqen keeps one GPU address space as a sorted table of mappings and a sorted list of sparse
+ * ranges, in memory that the caller lends. waylluqen_bind() and waylluqen_bind_record() map or
+ * unmap a range: they cut what is mapped there out of the table, and write the operations that a
+ * driver carries out on its page tables. waylluqen_bind_record() also adds a sparse range or
+ * removes one. waylluqen_lookup() tells what an address shows, and how far that goes on.
  * waylluqen_check_request() tells beforehand what is wrong with a request. All that is kept between
- * two calls is the caller's: a space, the table's words and their count.
+ * two calls is the caller's: a space, the words of list and table, and their counts.
  *
- * Any table, any request and any numbers get an answer, and it is proved to be the one that is
- * written here: &waylluqen_answer.refusal is %WAYLLUQEN_OK, or the first rule that is broken,
- * and then no lent word has changed.
+ * Any list, any table, any request and any numbers get an answer, and it is proved to be the one
+ * that is written here: &waylluqen_answer.refusal is %WAYLLUQEN_OK, or the first rule that is
+ * broken, and then no lent word has changed.
  *
  * Sums are exact, none wraps. Ranges are half-open: two that only touch share no byte.
  */
@@ -49,7 +50,7 @@ extern "C" {
 #define WAYLLUQEN_VERSION_MAJOR 0
 #define WAYLLUQEN_VERSION_MINOR 1
 #define WAYLLUQEN_VERSION_PATCH 0
-#define WAYLLUQEN_INTERFACE waylluqen_interface_5
+#define WAYLLUQEN_INTERFACE waylluqen_interface_6
 
 /**
  * DOC: What the caller ensures
@@ -59,11 +60,12 @@ extern "C" {
  * - A pointer is valid for as many words or bytes as its length says, for reading, and where it
  *   is not const for writing. It is not NULL, also where the length is 0.
  * - A pointer to words is aligned as a uint64_t is. A record may stand at any byte.
- * - What is lent for writing overlaps nothing else that is lent in the same call: the table, the
- *   operation words and the record are three places.
+ * - What is lent for writing overlaps nothing else that is lent in the same call: the list of
+ *   sparse ranges, the table, the operation words and the record are four places. No words and no
+ *   bytes are no place.
  * - Nobody else writes to lent memory during a call, or reads what the call writes: no other
- *   thread, no interrupt, no device. Look-ups in one table may run beside each other, but not
- *   beside a bind on it. There are no locks in here.
+ *   thread, no interrupt, no device. Look-ups in one table and one list may run beside each other,
+ *   but not beside a bind on them. There are no locks in here.
  * - The processor is an x86-64 with the System V calling convention, and SSE2 may be used. A call
  *   takes less than a kilobyte of stack. At link time there is a memset().
  * - The stack pointer is a multiple of 16 at a call, as that convention has it. The Linux kernel
@@ -79,17 +81,45 @@ extern "C" {
  *
  * A page is %WAYLLUQEN_PAGE_SIZE bytes. Neither a space nor a mapping's part of its object goes
  * above %WAYLLUQEN_LIMIT. An object is a number from 1 to %WAYLLUQEN_MAX_OBJECT. A table has
- * room for 1 to %WAYLLUQEN_MAX_MAPPINGS mappings.
+ * room for 1 to %WAYLLUQEN_MAX_MAPPINGS mappings, a list of sparse ranges for 0 to
+ * %WAYLLUQEN_MAX_RANGES of them.
  *
  * With room for the most, a table has 131,072 bytes and its list of operations 458,864: neither
- * is for a kernel's stack.
+ * is for a kernel's stack. A list of sparse ranges has 1,024.
  */
 enum {
     WAYLLUQEN_PAGE_SIZE = 4096,
-    WAYLLUQEN_MAX_MAPPINGS = 4096
+    WAYLLUQEN_MAX_MAPPINGS = 4096,
+    WAYLLUQEN_MAX_RANGES = 64
 };
 #define WAYLLUQEN_LIMIT ((uint64_t)1 << 48)
 #define WAYLLUQEN_MAX_OBJECT ((uint64_t)0xffffffff)
+
+/**
+ * DOC: Sparse ranges
+ *
+ * Vulkan's sparse residency gives a texture all its addresses at once, and memory to some of its
+ * tiles later. A sparse range is such addresses: a page there that no mapping has is sparse. Where
+ * the GPU comes to a sparse page it does not fault: a read gives zeros, or what else the device
+ * defines, and a write is dropped. A page in no mapping and in no sparse range shows nothing, and
+ * the GPU faults there.
+ *
+ * A record with %WAYLLUQEN_FLAG_SPARSE adds a range to the list or removes one, and changes nothing
+ * else. Every other request maps and unmaps as if there were no list. A range may lie over
+ * mappings, which show what they showed, and mappings may come into it and go again.
+ *
+ * Hardware has a sparse bit in a page entry. No operation tells a driver to set it, so that a
+ * driver sees to it by itself:
+ *
+ * - Where a range is added, all its pages that no mapping has get a sparse entry.
+ *   waylluqen_lookup() tells which these are, %WAYLLUQEN_SHOWN_SPARSE.
+ * - Where a range is removed, all its entries are cleared. No mapping shares a byte with it then.
+ * - Where an unmap or a remap operation frees pages in a range, these get a sparse entry again and
+ *   no clear one; the list tells which they are. waylluqen_lookup() tells it too, but for a map it
+ *   shows already what the map operation at the end is to show.
+ *
+ * A map operation's entries replace sparse ones like any others. Flush the TLB in each case.
+ */
 
 /**
  * enum waylluqen_refusal - why a call is refused
@@ -108,19 +138,27 @@ enum {
  *     page, or its size is 0
  * @WAYLLUQEN_REFUSED_OUTSIDE_SPACE: the request's range is not inside the space
  * @WAYLLUQEN_REFUSED_RESERVED: the request's range shares a byte with the reservation
- * @WAYLLUQEN_REFUSED_BAD_OBJECT: a map of object 0 or above %WAYLLUQEN_MAX_OBJECT; an unmap with
- *     an object or an offset other than 0
+ * @WAYLLUQEN_REFUSED_BAD_OBJECT: a map of object 0 or above %WAYLLUQEN_MAX_OBJECT; an unmap, or any
+ *     request with %WAYLLUQEN_FLAG_SPARSE, with an object or an offset other than 0
  * @WAYLLUQEN_REFUSED_BAD_OFFSET: a map whose offset plus size is above %WAYLLUQEN_LIMIT
  * @WAYLLUQEN_REFUSED_NO_ROOM: there would be more mappings afterwards than the table has room
- *     for; what the request frees counts as free
+ *     for; what the request frees counts as free. For a map with %WAYLLUQEN_FLAG_SPARSE: the list
+ *     of sparse ranges is full
  * @WAYLLUQEN_REFUSED_BAD_RECORD_LENGTH: the record is not %WAYLLUQEN_RECORD_BYTES bytes long
  * @WAYLLUQEN_REFUSED_BAD_OP: op is neither %WAYLLUQEN_OP_MAP nor %WAYLLUQEN_OP_UNMAP
- * @WAYLLUQEN_REFUSED_BAD_FLAGS: the record's flags or pad is not 0
+ * @WAYLLUQEN_REFUSED_BAD_FLAGS: the record's flags are neither 0 nor %WAYLLUQEN_FLAG_SPARSE, or its
+ *     pad is not 0
  * @WAYLLUQEN_REFUSED_STALE_WORDS: a word behind the table's last mapping is not 0, as where the
  *     count is too low; see WAYLLUQEN_TABLE_WORDS()
+ * @WAYLLUQEN_REFUSED_BAD_RANGES: the list of sparse ranges breaks one of its rules, see
+ *     WAYLLUQEN_RANGE_LIST_WORDS()
+ * @WAYLLUQEN_REFUSED_RANGE_OVERLAPS: for a map with %WAYLLUQEN_FLAG_SPARSE: it shares a byte with a
+ *     sparse range
+ * @WAYLLUQEN_REFUSED_NO_SUCH_RANGE: for an unmap with %WAYLLUQEN_FLAG_SPARSE: no sparse range has
+ *     exactly its start and size, or a mapping shares a byte with it
  *
- * Where several apply, a call answers with the first in this order: 12, 13, 14, 1 to 5, 17, then 6
- * to 11. It leaves out those that it has no use for. 15 and 16 are no refusals.
+ * Where several apply, a call answers with the first in this order: 12, 13, 14, 1 to 5, 17, 18,
+ * then 6 to 10, 19, 20, 11. It leaves out those that it has no use for. 15 and 16 are no refusals.
  */
 enum waylluqen_refusal {
     WAYLLUQEN_OK = 0,
@@ -138,7 +176,10 @@ enum waylluqen_refusal {
     WAYLLUQEN_REFUSED_BAD_RECORD_LENGTH = 12,
     WAYLLUQEN_REFUSED_BAD_OP = 13,
     WAYLLUQEN_REFUSED_BAD_FLAGS = 14,
-    WAYLLUQEN_REFUSED_STALE_WORDS = 17
+    WAYLLUQEN_REFUSED_STALE_WORDS = 17,
+    WAYLLUQEN_REFUSED_BAD_RANGES = 18,
+    WAYLLUQEN_REFUSED_RANGE_OVERLAPS = 19,
+    WAYLLUQEN_REFUSED_NO_SUCH_RANGE = 20
 };
 
 /**
@@ -164,20 +205,31 @@ enum waylluqen_refusal {
     X(WAYLLUQEN_REFUSED_RESERVED, "the range shares a byte with the reservation") \
     X(WAYLLUQEN_REFUSED_BAD_OBJECT, "the object is not one that can be asked for") \
     X(WAYLLUQEN_REFUSED_BAD_OFFSET, "the offset plus the size is too high") \
-    X(WAYLLUQEN_REFUSED_NO_ROOM, "the table has no room for the mappings afterwards") \
+    X(WAYLLUQEN_REFUSED_NO_ROOM, "there is no room for the mappings or ranges afterwards") \
     X(WAYLLUQEN_REFUSED_BAD_RECORD_LENGTH, "the record is not 40 bytes long") \
     X(WAYLLUQEN_REFUSED_BAD_OP, "the op is neither map nor unmap") \
-    X(WAYLLUQEN_REFUSED_BAD_FLAGS, "flags or pad is not 0") \
-    X(WAYLLUQEN_REFUSED_STALE_WORDS, "a word behind the table's last mapping is not 0")
+    X(WAYLLUQEN_REFUSED_BAD_FLAGS, "the flags are not known, or pad is not 0") \
+    X(WAYLLUQEN_REFUSED_STALE_WORDS, "a word behind the table's last mapping is not 0") \
+    X(WAYLLUQEN_REFUSED_BAD_RANGES, "the list of sparse ranges breaks its rules") \
+    X(WAYLLUQEN_REFUSED_RANGE_OVERLAPS, "the range shares a byte with a sparse range") \
+    X(WAYLLUQEN_REFUSED_NO_SUCH_RANGE, "there is no such sparse range, or a mapping is in it")
 
 /**
  * enum waylluqen_op - what a request asks for
  * @WAYLLUQEN_OP_MAP: the range is to show an object
- * @WAYLLUQEN_OP_UNMAP: the range is to show nothing
+ * @WAYLLUQEN_OP_UNMAP: the range is to show no object
  */
 enum waylluqen_op {
     WAYLLUQEN_OP_MAP = 0,
     WAYLLUQEN_OP_UNMAP = 1
+};
+
+/**
+ * enum waylluqen_flag - what the flags of a record can be, but for 0
+ * @WAYLLUQEN_FLAG_SPARSE: a map adds a sparse range, an unmap removes one; object and offset are 0
+ */
+enum waylluqen_flag {
+    WAYLLUQEN_FLAG_SPARSE = 256
 };
 
 /**
@@ -214,6 +266,39 @@ enum waylluqen_mapping_word {
  * takes a mapping away by hand has to leave zeros behind the last mapping too.
  */
 #define WAYLLUQEN_TABLE_WORDS(capacity) ((size_t)(capacity) * WAYLLUQEN_MAPPING_WORDS)
+
+/**
+ * enum waylluqen_range_word - the words of a sparse range
+ * @WAYLLUQEN_RANGE_START: its first address
+ * @WAYLLUQEN_RANGE_SIZE: its size in bytes
+ * @WAYLLUQEN_RANGE_WORDS: how many words it has
+ *
+ * Its rules: start and size are multiples of a page; the size is not 0; [start, start + size) is
+ * inside the space and shares no byte with the reservation.
+ */
+enum waylluqen_range_word {
+    WAYLLUQEN_RANGE_START = 0,
+    WAYLLUQEN_RANGE_SIZE = 1,
+    WAYLLUQEN_RANGE_WORDS = 2
+};
+
+/**
+ * WAYLLUQEN_RANGE_LIST_WORDS() - how many words a list of sparse ranges has
+ * @capacity: how many ranges it is to have room for, 0 to %WAYLLUQEN_MAX_RANGES
+ *
+ * The list's rules: its length is even, and no more than 128 words; its count is at most half of
+ * that. The ranges stand at its front in ascending order and keep their rules, each starting where
+ * the one before it ends or later. Two that touch stay two. Every word behind the last range is 0.
+ * A list that breaks one is refused, %WAYLLUQEN_REFUSED_BAD_RANGES. An empty list is zeros with
+ * count 0.
+ *
+ * A grant keeps them so: a list that only these calls write, with the count that they answer, is
+ * never refused.
+ *
+ * A driver without sparse ranges lends no words, with count 0. Any pointer will do for that if it
+ * is aligned and not NULL, the table's too.
+ */
+#define WAYLLUQEN_RANGE_LIST_WORDS(capacity) ((size_t)(capacity) * WAYLLUQEN_RANGE_WORDS)
 
 /**
  * enum waylluqen_kind - what an operation tells a driver to do
@@ -267,11 +352,11 @@ enum waylluqen_operation_word {
 /**
  * enum waylluqen_record_byte - the bytes of a request record, each field little-endian
  * @WAYLLUQEN_RECORD_OP: 4 bytes, one of &enum waylluqen_op
- * @WAYLLUQEN_RECORD_FLAGS: 4 bytes, 0
- * @WAYLLUQEN_RECORD_HANDLE: 4 bytes, the object; 0 for an unmap
+ * @WAYLLUQEN_RECORD_FLAGS: 4 bytes, 0 or one of &enum waylluqen_flag
+ * @WAYLLUQEN_RECORD_HANDLE: 4 bytes, the object; 0 for an unmap, and with a flag
  * @WAYLLUQEN_RECORD_PAD: 4 bytes, 0
  * @WAYLLUQEN_RECORD_ADDR: 8 bytes, the first address of the range
- * @WAYLLUQEN_RECORD_BO_OFFSET: 8 bytes, the offset in the object; 0 for an unmap
+ * @WAYLLUQEN_RECORD_BO_OFFSET: 8 bytes, the offset in the object; 0 for an unmap, and with a flag
  * @WAYLLUQEN_RECORD_RANGE: 8 bytes, the size of the range in bytes
  * @WAYLLUQEN_RECORD_BYTES: how many bytes it has
  *
@@ -290,12 +375,14 @@ enum waylluqen_record_byte {
 
 /**
  * enum waylluqen_shown - what an address shows
- * @WAYLLUQEN_SHOWN_NOTHING: nothing: it is in no mapping
- * @WAYLLUQEN_SHOWN_OBJECT: a byte of an object
+ * @WAYLLUQEN_SHOWN_NOTHING: nothing: it is in no mapping and in no sparse range
+ * @WAYLLUQEN_SHOWN_OBJECT: a byte of an object: it is in a mapping
+ * @WAYLLUQEN_SHOWN_SPARSE: no object, and no fault: it is in no mapping, but in a sparse range
  */
 enum waylluqen_shown {
     WAYLLUQEN_SHOWN_NOTHING = 0,
-    WAYLLUQEN_SHOWN_OBJECT = 1
+    WAYLLUQEN_SHOWN_OBJECT = 1,
+    WAYLLUQEN_SHOWN_SPARSE = 2
 };
 
 /**
@@ -317,7 +404,7 @@ typedef struct waylluqen_space {
 } waylluqen_space;
 
 /**
- * struct waylluqen_request - a request by numbers
+ * struct waylluqen_request - a request by numbers, which has no flags
  * @op: one of &enum waylluqen_op
  * @address: the first address of the range
  * @size: the size of the range in bytes
@@ -339,12 +426,14 @@ typedef struct waylluqen_request {
  *     else 0
  * @operations: how many operations were written; 0 on a refusal
  * @count: how many mappings the table has now; on a refusal the count that came in
+ * @ranges: how many sparse ranges the list has now; on a refusal the count that came in
  */
 typedef struct waylluqen_answer {
     uint64_t refusal;
     uint64_t place;
     uint64_t operations;
     uint64_t count;
+    uint64_t ranges;
 } waylluqen_answer;
 
 /**
@@ -392,6 +481,9 @@ __attribute__((used)) static uint32_t (*const waylluqen_interface_needed)(void) 
 /**
  * waylluqen_bind() - map or unmap a range, by numbers
  * @space: the space
+ * @ranges: its list of sparse ranges
+ * @range_words: how many words the list has, WAYLLUQEN_RANGE_LIST_WORDS() of its capacity
+ * @range_count: how many ranges the list has
  * @table: its table
  * @table_words: how many words the table has, WAYLLUQEN_TABLE_WORDS() of its capacity
  * @count: how many mappings the table has
@@ -417,24 +509,31 @@ __attribute__((used)) static uint32_t (*const waylluqen_interface_needed)(void) 
  *
  * On a grant the operations stand at the front of @operations, and the words behind them are as
  * they were. The table has the mappings that the operations lead to, and zeros behind them. Each
- * page of the range then shows what was asked, and every other page what it showed before.
+ * page of a mapped range then shows what was asked, each page of an unmapped one is sparse or shows
+ * nothing, as the list says, and every other page shows what it showed before.
  *
- * On a refusal no word of @table and @operations has changed.
+ * The list is not written to, and has no say in what happens but for
+ * %WAYLLUQEN_REFUSED_BAD_RANGES. On a refusal no word of @table and @operations has changed.
  *
  * Returns: the first of %WAYLLUQEN_REFUSED_BAD_OP, %WAYLLUQEN_REFUSED_BAD_SPACE,
  * %WAYLLUQEN_REFUSED_BAD_TABLE_LENGTH, %WAYLLUQEN_REFUSED_SHORT_OPERATIONS,
  * %WAYLLUQEN_REFUSED_BAD_COUNT, %WAYLLUQEN_REFUSED_BAD_MAPPING, %WAYLLUQEN_REFUSED_STALE_WORDS,
- * %WAYLLUQEN_REFUSED_UNALIGNED, %WAYLLUQEN_REFUSED_OUTSIDE_SPACE, %WAYLLUQEN_REFUSED_RESERVED,
- * %WAYLLUQEN_REFUSED_BAD_OBJECT, %WAYLLUQEN_REFUSED_BAD_OFFSET and %WAYLLUQEN_REFUSED_NO_ROOM that
- * applies; or %WAYLLUQEN_OK with the number of operations and the count to go on with.
+ * %WAYLLUQEN_REFUSED_BAD_RANGES, %WAYLLUQEN_REFUSED_UNALIGNED, %WAYLLUQEN_REFUSED_OUTSIDE_SPACE,
+ * %WAYLLUQEN_REFUSED_RESERVED, %WAYLLUQEN_REFUSED_BAD_OBJECT, %WAYLLUQEN_REFUSED_BAD_OFFSET and
+ * %WAYLLUQEN_REFUSED_NO_ROOM that applies; or %WAYLLUQEN_OK with the number of operations and the
+ * count to go on with.
  */
-waylluqen_answer waylluqen_bind(waylluqen_space space, uint64_t *table, size_t table_words,
+waylluqen_answer waylluqen_bind(waylluqen_space space, const uint64_t *ranges, size_t range_words,
+                                uint64_t range_count, uint64_t *table, size_t table_words,
                                 uint64_t count, uint64_t *operations, size_t operation_words,
                                 waylluqen_request request);
 
 /**
- * waylluqen_bind_record() - map or unmap a range, by a record
+ * waylluqen_bind_record() - map or unmap a range, or add or remove a sparse one, by a record
  * @space: the space
+ * @ranges: its list of sparse ranges
+ * @range_words: how many words the list has
+ * @range_count: how many ranges the list has
  * @table: its table
  * @table_words: how many words the table has
  * @count: how many mappings the table has
@@ -443,13 +542,28 @@ waylluqen_answer waylluqen_bind(waylluqen_space space, uint64_t *table, size_t t
  * @record: what is asked for, as a program handed it over; see &enum waylluqen_record_byte
  * @record_bytes: how many bytes that are
  *
- * Does what waylluqen_bind() does for the request that the record holds. The record is not
- * written to.
+ * With flags 0, does what waylluqen_bind() does for the request that the record holds.
+ *
+ * With %WAYLLUQEN_FLAG_SPARSE, a map puts the range into the list, in its place by its start. It
+ * may touch ranges, which are not joined, but not overlap them; it may lie over mappings. An unmap
+ * takes the range with exactly this start and size out of the list. As long as a mapping shares a
+ * byte with it, it stays; a mapping that only touches it is not in the way. Words behind the list's
+ * last range are zeros afterwards. There are no operations, no word of @table and @operations
+ * changes, and the table's count stays; but all that is lent is checked as for any other request,
+ * also that there are operation words enough. What a driver does on such a grant stands under
+ * 'Sparse ranges'.
+ *
+ * The record is not written to. On a refusal no word of @ranges, @table and @operations has
+ * changed.
  *
  * Returns: the first of %WAYLLUQEN_REFUSED_BAD_RECORD_LENGTH, %WAYLLUQEN_REFUSED_BAD_OP and
- * %WAYLLUQEN_REFUSED_BAD_FLAGS that applies; else what waylluqen_bind() returns.
+ * %WAYLLUQEN_REFUSED_BAD_FLAGS that applies; else, with flags 0, what waylluqen_bind() returns.
+ * With %WAYLLUQEN_FLAG_SPARSE that too up to %WAYLLUQEN_REFUSED_BAD_OBJECT, and behind it
+ * %WAYLLUQEN_REFUSED_RANGE_OVERLAPS, %WAYLLUQEN_REFUSED_NO_SUCH_RANGE and
+ * %WAYLLUQEN_REFUSED_NO_ROOM; or %WAYLLUQEN_OK with the list's count to go on with.
  */
-waylluqen_answer waylluqen_bind_record(waylluqen_space space, uint64_t *table, size_t table_words,
+waylluqen_answer waylluqen_bind_record(waylluqen_space space, uint64_t *ranges, size_t range_words,
+                                       uint64_t range_count, uint64_t *table, size_t table_words,
                                        uint64_t count, uint64_t *operations,
                                        size_t operation_words, const uint8_t *record,
                                        size_t record_bytes);
@@ -457,43 +571,59 @@ waylluqen_answer waylluqen_bind_record(waylluqen_space space, uint64_t *table, s
 /**
  * waylluqen_lookup() - what the byte at an address shows, and how far that goes on
  * @space: the space
+ * @ranges: its list of sparse ranges
+ * @range_words: how many words the list has
+ * @range_count: how many ranges the list has
  * @table: its table
  * @table_words: how many words the table has
  * @count: how many mappings the table has
  * @address: the address; any, also one outside the space
  *
  * An address inside a mapping shows the mapping's object at offset + (address - the mapping's
- * address). Any other shows nothing, and that is no refusal. Nothing is written.
+ * address). Any other is sparse if it is in a range of the list. Else it shows nothing, and that is
+ * no refusal. Nothing is written.
  *
  * The answer goes on in the same way to the mapping's end, each byte with the next one of the
- * object; where nothing is shown, to the next mapping's address, or to the space's end if there is
- * none behind. A neighbour is not counted in, also where it touches and goes on with the same
- * object; a gap is not cut at the reservation. Outside the space the number of bytes is 0.
+ * object, whatever the list says there. Off mappings it goes on to what comes first: the next
+ * mapping's address, the start or the end of a sparse range, the space's end. A neighbour is not
+ * counted in, also where it touches: a mapping that goes on with the same object, a sparse range
+ * behind another one. A gap is not cut at the reservation. Outside the space the number of bytes is
+ * 0.
  *
  * A range is walked with one look-up for each run of bytes::
  *
  *      waylluqen_translation run;
  *      for (uint64_t at = start; at < end; at += run.bytes) {
- *          run = waylluqen_lookup(space, table, table_words, count, at);
+ *          run = waylluqen_lookup(space, ranges, range_words, range_count,
+ *                                 table, table_words, count, at);
  *          if (run.bytes == 0) {
  *              break; // refused, or outside the space
  *          }
- *          // [at, at + run.bytes) shows run.object from run.offset on, or nothing; the last run
- *          // may go on behind the range's end
+ *          switch (run.shown) { // in [at, at + run.bytes); the last run may go on behind the end
+ *          case WAYLLUQEN_SHOWN_OBJECT:
+ *              break; // run.object from run.offset on
+ *          case WAYLLUQEN_SHOWN_SPARSE:
+ *              break; // no object and no fault
+ *          case WAYLLUQEN_SHOWN_NOTHING:
+ *              break;
+ *          }
  *      }
  *
- * Each of these look-ups checks the table, with the words behind its last mapping.
+ * Each of these look-ups checks the table and the list, with the words behind the last mapping and
+ * the last range.
  *
  * Returns: the first of %WAYLLUQEN_REFUSED_BAD_SPACE, %WAYLLUQEN_REFUSED_BAD_TABLE_LENGTH,
- * %WAYLLUQEN_REFUSED_BAD_COUNT, %WAYLLUQEN_REFUSED_BAD_MAPPING and
- * %WAYLLUQEN_REFUSED_STALE_WORDS that applies; or %WAYLLUQEN_OK with what the address shows and for
+ * %WAYLLUQEN_REFUSED_BAD_COUNT, %WAYLLUQEN_REFUSED_BAD_MAPPING, %WAYLLUQEN_REFUSED_STALE_WORDS and
+ * %WAYLLUQEN_REFUSED_BAD_RANGES that applies; or %WAYLLUQEN_OK with what the address shows and for
  * how many bytes.
  */
-waylluqen_translation waylluqen_lookup(waylluqen_space space, const uint64_t *table,
-                                       size_t table_words, uint64_t count, uint64_t address);
+waylluqen_translation waylluqen_lookup(waylluqen_space space, const uint64_t *ranges,
+                                       size_t range_words, uint64_t range_count,
+                                       const uint64_t *table, size_t table_words, uint64_t count,
+                                       uint64_t address);
 
 /**
- * waylluqen_check_request() - what is wrong with a request, whatever the table
+ * waylluqen_check_request() - what is wrong with a request, whatever the table and the list
  * @record: the request, as a program handed it over; see &enum waylluqen_record_byte
  * @record_bytes: how many bytes that are
  * @start: as in &waylluqen_space

@@ -15,7 +15,7 @@ const LIB_DIR: &str = "WAYLLUQEN_LIB_DIR";
 const ADVICE: &str = "run `rt staticlib waylluqen` at the repository's root, or set";
 
 /// The symbol that src/ffi.rs needs.
-const INTERFACE: &str = "waylluqen_interface_5";
+const INTERFACE: &str = "waylluqen_interface_6";
 
 const ARCHIVE_MAGIC: &[u8] = b"!<arch>\n";
 const MEMBER_HEADER: usize = 60;

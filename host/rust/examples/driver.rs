@@ -1,7 +1,8 @@
 // SPDX-License-Identifier: MIT
 //! An example driver: it keeps one address space and carries each operation out on a page table,
-//! here an array. Where that fails half-way, it goes back. host/c/driver.c is the same in C. Both
-//! print what host/driver.out has, and end with 1 if a page entry is not what look-ups say.
+//! here an array. Where that fails half-way, it goes back. It also keeps sparse ranges, and sees to
+//! the entries of their pages. host/c/driver.c is the same in C. Both print what host/driver.out
+//! has, and end with 1 if a page entry is not what look-ups say.
 //!
 //! After `rt staticlib waylluqen` at the repository's root, `cargo run --example driver` in
 //! host/rust.
@@ -10,35 +11,40 @@ use std::error::Error;
 use std::fmt;
 use std::ops::Range;
 use std::process::ExitCode;
-use waylluqen::{operation_list_words, table_words, Mapping, Operation, Operations, Refusal};
-use waylluqen::{Request, Rests, Seen, Shown, Space, Table, View};
+use waylluqen::{operation_list_words, range_words, table_words, Mapping, Operation, Operations};
+use waylluqen::{Ranges, Refusal, Request, Rests, Seen, Shown, Space, Table, View};
 use waylluqen::{PAGE_SIZE as PAGE, RECORD_BYTES};
 
 const START: u64 = 0x10_0000;
-const PAGES: usize = 16;
+const PAGES: usize = 32;
 const CAPACITY: usize = 8;
 const TABLE_WORDS: usize = table_words(CAPACITY);
+const RANGE_WORDS: usize = range_words(4);
 const LIST_WORDS: usize = operation_list_words(CAPACITY);
 const PLENTY: u64 = u64::MAX;
 
 const FRAMEBUFFER: u64 = 1;
 const TEXTURE: u64 = 2;
 const RING: u64 = 3;
+const TILES: u64 = 4;
 
 /// Stands for the page table that the GPU reads.
 #[derive(Clone, PartialEq)]
 struct PageTable {
-    /// What each page's first byte shows.
+    /// What each page's first byte shows. That it is sparse is a bit in hardware.
     entries: [Shown; PAGES],
     /// How many entries can be changed until one can't be; a simulation.
     memory: u64,
 }
 
-/// A table's words and their count: they change together, so they are copied together.
+/// The words of a table and of a list of sparse ranges, and their counts: they belong together, so
+/// they are copied together.
 #[derive(Clone, Copy, PartialEq)]
 struct Stored {
     words: [u64; TABLE_WORDS],
     count: u64,
+    ranges: [u64; RANGE_WORDS],
+    range_count: u64,
 }
 
 /// How many page entries were written from look-ups, and from how many.
@@ -61,12 +67,19 @@ struct AddressSpace {
     compared: u64,
 }
 
-/// How many page entries a request clears, keeps and writes.
+/// How many page entries a request clears, keeps, writes and makes sparse.
 #[derive(Default)]
 struct Counts {
     cleared: u64,
     kept: u64,
     written: u64,
+    sparse: u64,
+}
+
+/// What was asked for, and whether with the sparse flag.
+struct Asked {
+    range: Range<u64>,
+    sparse: bool,
 }
 
 /// There is no memory for a page entry, as where a large page would have to be split first.
@@ -102,6 +115,7 @@ fn name_of(object: u64) -> &'static str {
         FRAMEBUFFER => "framebuffer",
         TEXTURE => "texture",
         RING => "ring",
+        TILES => "tiles",
         _ => "unknown",
     }
 }
@@ -160,7 +174,7 @@ fn each_page(range: Range<u64>) -> impl Iterator<Item = u64> {
 /// What is shown so many bytes further on, where it goes on in the same way.
 fn further(shown: Shown, bytes: u64) -> Shown {
     match shown {
-        Shown::Nothing => Shown::Nothing,
+        Shown::Nothing | Shown::Sparse => shown,
         Shown::Object { object, offset } => Shown::Object {
             object,
             offset: offset + bytes,
@@ -185,15 +199,33 @@ impl PageTable {
         Ok(())
     }
 
-    /// With keep the entries are left alone: the new mapping shows the same there.
-    fn unmap(&mut self, counts: &mut Counts, old: Range<u64>, keep: bool) -> Result<(), NoMemory> {
+    /// Clears an entry, or makes it sparse.
+    fn clear(&mut self, counts: &mut Counts, address: u64, sparse: bool) -> Result<(), NoMemory> {
+        if sparse {
+            self.change(address, Shown::Sparse)?;
+            counts.sparse += 1;
+        } else {
+            self.change(address, Shown::Nothing)?;
+            counts.cleared += 1;
+        }
+        Ok(())
+    }
+
+    /// With keep the entries are left alone: the new mapping shows the same there. Any others are
+    /// sparse where the old mapping lies over a sparse range.
+    fn unmap(
+        &mut self,
+        counts: &mut Counts,
+        table: &Stored,
+        old: Range<u64>,
+        keep: bool,
+    ) -> Result<(), NoMemory> {
         if keep {
             counts.kept += (old.end - old.start) / PAGE;
             return Ok(());
         }
         for at in each_page(old) {
-            self.change(at, Shown::Nothing)?;
-            counts.cleared += 1;
+            self.clear(counts, at, table.is_in_range(at))?;
         }
         Ok(())
     }
@@ -229,40 +261,89 @@ impl PageTable {
         self.write_entries(counts, new, start..end_of(new))
     }
 
-    /// Carries out an operation of the list.
+    /// Carries out the operations in order.
     fn carry_out(
         &mut self,
         counts: &mut Counts,
+        table: &Stored,
         list: Operations<'_>,
-        operation: Operation,
     ) -> Result<(), NoMemory> {
-        match operation {
-            Operation::Map(new) => self.map(counts, list, new),
-            // Its rests show what they showed.
-            Operation::Remap { old, rests, keep } => {
-                self.unmap(counts, lost(old, Some(rests)), keep)
+        for operation in list.clone() {
+            match operation {
+                Operation::Map(new) => self.map(counts, list.clone(), new)?,
+                // Its rests show what they showed.
+                Operation::Remap { old, rests, keep } => {
+                    self.unmap(counts, table, lost(old, Some(rests)), keep)?;
+                }
+                Operation::Unmap { old, keep } => {
+                    self.unmap(counts, table, lost(old, None), keep)?;
+                }
             }
-            Operation::Unmap { old, keep } => self.unmap(counts, lost(old, None), keep),
         }
+        Ok(())
     }
 
-    /// Carries a grant's operations out in order; then a driver flushes the GPU's TLB, but not for
-    /// what was kept.
-    fn finish(&mut self, list: Operations<'_>) -> Result<(), NoMemory> {
+    /// What a sparse range that was added or removed leaves to the driver: its pages that no mapping
+    /// has are sparse now, or show nothing.
+    fn write_sparse(
+        &mut self,
+        counts: &mut Counts,
+        table: &Stored,
+        bounds: Space,
+        range: Range<u64>,
+    ) -> Result<(), NoMemory> {
+        for run in table.view().runs(bounds, range) {
+            let run = run.expect("the bind left this table");
+            if let Shown::Object { .. } = run.shown {
+                continue;
+            }
+            for at in each_page(run.address..run.address + run.bytes) {
+                self.clear(counts, at, run.shown == Shown::Sparse)?;
+            }
+        }
+        Ok(())
+    }
+
+    /// Carries a grant out; then a driver flushes the GPU's TLB, but not for what was kept.
+    fn finish(
+        &mut self,
+        table: &Stored,
+        bounds: Space,
+        list: Operations<'_>,
+        asked: &Asked,
+    ) -> Result<(), NoMemory> {
         let mut counts = Counts::default();
-        for operation in list.clone() {
-            self.carry_out(&mut counts, list.clone(), operation)?;
+        if asked.sparse {
+            self.write_sparse(&mut counts, table, bounds, asked.range.clone())?;
+        } else {
+            self.carry_out(&mut counts, table, list.clone())?;
         }
         list.for_each(print_operation);
+        if asked.sparse {
+            println!("  sparse ranges: {}", table.range_count);
+        }
         let (cleared, kept, written) = (counts.cleared, counts.kept, counts.written);
-        println!("  page entries: {cleared} cleared, {kept} kept, {written} written");
+        print!("  page entries: {cleared} cleared, {kept} kept, {written} written");
+        println!(", {} sparse", counts.sparse);
         Ok(())
     }
 }
 
 impl Stored {
     fn view(&self) -> View<'_> {
-        View::new(&self.words, self.count)
+        View::new(&self.words, self.count).with_ranges(&self.ranges, self.range_count)
+    }
+
+    fn table(&mut self) -> Table<'_> {
+        let ranges = Ranges::with_count(&mut self.ranges, self.range_count);
+        Table::with_count(&mut self.words, self.count).with_ranges(ranges)
+    }
+
+    /// Whether a page is in a sparse range. For a map request a look-up would show the new mapping
+    /// here already, before its entries are written.
+    fn is_in_range(&self, address: u64) -> bool {
+        let mut ranges = self.view().ranges();
+        ranges.any(|range| (range.start..range.start + range.size).contains(&address))
     }
 }
 
@@ -271,23 +352,34 @@ impl AddressSpace {
     /// much for a kernel stack. With much room a driver has it beside the table.
     fn bind(&mut self, request: Request) -> Result<(), Failure> {
         let before = self.table;
-        let mut table = Table::with_count(&mut self.table.words, self.table.count);
+        let mut table = self.table.table();
         let operations = table.bind(self.bounds, request, &mut self.operations)?;
-        self.table.count = table.count();
-        let asked = request.address..request.address + request.size;
-        let done = self.pages.finish(operations);
-        done.map_err(|NoMemory| self.go_back(before, asked))
+        (self.table.count, self.table.range_count) = (table.count(), table.ranges().count());
+        let asked = Asked {
+            range: request.address..request.address + request.size,
+            sparse: request.flags == Request::SPARSE,
+        };
+        let done = self
+            .pages
+            .finish(&self.table, self.bounds, operations, &asked);
+        done.map_err(|NoMemory| self.go_back(before, asked.range))
     }
 
     fn bind_record(&mut self, record: &[u8]) -> Result<(), Failure> {
         let before = self.table;
-        let mut table = Table::with_count(&mut self.table.words, self.table.count);
+        let mut table = self.table.table();
         let operations = table.bind_record(self.bounds, record, &mut self.operations)?;
-        self.table.count = table.count();
-        // It is granted, so it has all its bytes; these are addr and range.
-        let (address, size) = (get(record, 16), get(record, 32));
-        let done = self.pages.finish(operations);
-        done.map_err(|NoMemory| self.go_back(before, address..address + size))
+        (self.table.count, self.table.range_count) = (table.count(), table.ranges().count());
+        // It is granted, so it has all its bytes; these are flags, addr and range.
+        let (flags, address, size) = (get(record, 4, 4), get(record, 16, 8), get(record, 32, 8));
+        let asked = Asked {
+            range: address..address + size,
+            sparse: flags == Request::SPARSE,
+        };
+        let done = self
+            .pages
+            .finish(&self.table, self.bounds, operations, &asked);
+        done.map_err(|NoMemory| self.go_back(before, asked.range))
     }
 
     /// Takes back what failed half-way: the table by its copy, and the entries by look-ups in it.
@@ -341,6 +433,10 @@ impl AddressSpace {
             let (name, offset) = (name_of(mapping.object), mapping.offset);
             println!("{start:#x}  {end:#x}  {pages:5}  {name:11}  {offset:#x}");
         }
+        for range in self.table.view().ranges() {
+            let (start, end, pages) = (range.start, range.start + range.size, range.size / PAGE);
+            println!("{start:#x}  {end:#x}  {pages:5}  (sparse)");
+        }
         let (start, size) = (self.bounds.reserved_start, self.bounds.reserved_size);
         let (end, pages) = (start + size, size / PAGE);
         println!("{start:#x}  {end:#x}  {pages:5}  (reserved)");
@@ -370,20 +466,20 @@ fn ask(space: &mut AddressSpace) -> Result<(), Box<dyn Error>> {
     Ok(())
 }
 
-/// The eight bytes of a record's field, little-endian.
-fn get(record: &[u8], at: usize) -> u64 {
-    let bytes = record[at..].iter().take(8).rev();
+/// The bytes of a record's field, little-endian.
+fn get(record: &[u8], at: usize, bytes: usize) -> u64 {
+    let bytes = record[at..].iter().take(bytes).rev();
     bytes.fold(0, |value, &byte| (value << 8) | u64::from(byte))
 }
 
 /// The 40 bytes, little-endian, with the fields where `enum waylluqen_record_byte` has them.
-fn make_record(request: Request, flags: u64) -> [u8; RECORD_BYTES] {
+fn make_record(request: Request) -> [u8; RECORD_BYTES] {
     let mut record = [0; RECORD_BYTES];
     let mut put = |at: usize, bytes: usize, value: u64| {
         record[at..at + bytes].copy_from_slice(&value.to_le_bytes()[..bytes]);
     };
     put(0, 4, request.op);
-    put(4, 4, flags);
+    put(4, 4, request.flags);
     put(8, 4, request.object);
     put(16, 8, request.address);
     put(24, 8, request.offset);
@@ -395,7 +491,7 @@ fn make_record(request: Request, flags: u64) -> [u8; RECORD_BYTES] {
 fn ask_by_record(space: &mut AddressSpace) -> Result<(), Box<dyn Error>> {
     println!("map a part of the ring");
     let ring = Request::map(0x10_2000, 3 * PAGE, RING, 0x1000);
-    space.bind_record(&make_record(ring, 0))?;
+    space.bind_record(&make_record(ring))?;
     space.compare()?;
 
     let past = Request::map(u64::MAX - PAGE + 1, 2 * PAGE, RING, 0);
@@ -403,12 +499,14 @@ fn ask_by_record(space: &mut AddressSpace) -> Result<(), Box<dyn Error>> {
     let unmap = Request::unmap(0x10_1000, 3 * PAGE);
     let mut with_object = unmap;
     with_object.object = RING;
+    let mut with_flags = unmap;
+    with_flags.flags = 1;
     for (what, record) in [
-        ("map past 2^64", &make_record(past, 0)[..]),
-        ("map the reservation", &make_record(reserved, 0)),
-        ("unmap an object", &make_record(with_object, 0)),
-        ("unmap with flags", &make_record(unmap, 1)),
-        ("unmap by 39 bytes", &make_record(unmap, 0)[..39]),
+        ("map past 2^64", &make_record(past)[..]),
+        ("map the reservation", &make_record(reserved)),
+        ("unmap an object", &make_record(with_object)),
+        ("unmap with flags", &make_record(with_flags)),
+        ("unmap by 39 bytes", &make_record(unmap)[..39]),
     ] {
         println!("{what}");
         let before = space.clone();
@@ -425,15 +523,18 @@ fn ask_by_record(space: &mut AddressSpace) -> Result<(), Box<dyn Error>> {
 }
 
 /// A stray write into the table: the next call tells which mapping it hit. A count that was not kept
-/// up: the next call does not take what it tells of for the whole table.
+/// up: the next call does not take what it tells of for the whole table, or for the whole list.
 fn ask_with_broken_table(space: &AddressSpace) -> Result<(), Box<dyn Error>> {
     let mut broken = space.clone();
     broken.table.words[table_words(2) + 1] += 1;
     let mut forgetful = space.clone();
     forgetful.table.count -= 1;
+    let mut sparse = space.clone();
+    sparse.table.range_count -= 1;
     for (what, mut space) in [
         ("unmap in a broken table", broken),
         ("unmap with a count that is too low", forgetful),
+        ("unmap with a count of ranges that is too low", sparse),
     ] {
         println!("{what}");
         let before = space.clone();
@@ -494,9 +595,67 @@ fn ask_without_memory(space: &mut AddressSpace) -> Result<(), Box<dyn Error>> {
         ("unmap across two", Request::unmap(0x10_4000, 3 * PAGE)),
     ] {
         println!("{what}, at first without memory");
-        fail_half_way(space, |space| space.bind_record(&make_record(request, 0)))?;
+        fail_half_way(space, |space| space.bind_record(&make_record(request)))?;
     }
     Ok(())
+}
+
+/// A sparse texture: all its addresses are reserved at once, tiles are mapped and unmapped in it,
+/// and in the end it is released. Then a range that lies over mappings, which stays. What is carried
+/// out fails half-way first.
+fn ask_for_sparse(space: &mut AddressSpace) -> Result<(), Box<dyn Error>> {
+    let reserve = Request::map_sparse(0x11_2000, 8 * PAGE);
+    let again = Request::map_sparse(0x11_9000, 2 * PAGE);
+    let release = Request::unmap_sparse(0x11_2000, 8 * PAGE);
+    let half = Request::unmap_sparse(0x11_2000, 4 * PAGE);
+    let four = Request::map(0x11_2000, 4 * PAGE, TILES, 0);
+    let across = Request::map(0x11_9000, 2 * PAGE, RING, 0);
+    let another = Request::map(0x11_3000, PAGE, TILES, 0x8000);
+    let over = Request::map_sparse(0x10_3000, 7 * PAGE);
+    for (what, request, refusal) in [
+        ("reserve a sparse texture", reserve, None),
+        ("reserve its end again", again, Some(Refusal::RangeOverlaps)),
+        ("map four tiles of it", four, None),
+        ("map across its end", across, None),
+        ("map another tile", another, None),
+        ("unmap a tile", Request::unmap(0x11_4000, PAGE), None),
+        (
+            "unmap across its end",
+            Request::unmap(0x11_9000, 2 * PAGE),
+            None,
+        ),
+        ("release it too early", release, Some(Refusal::NoSuchRange)),
+        ("unmap all of it", Request::unmap(0x11_2000, 8 * PAGE), None),
+        ("release half of it", half, Some(Refusal::NoSuchRange)),
+        ("release it", release, None),
+        ("reserve over mappings", over, None),
+    ] {
+        match refusal {
+            None => {
+                println!("{what}, at first without memory");
+                fail_half_way(space, |space| space.bind(request))?;
+            }
+            Some(refusal) => {
+                println!("{what}");
+                ask_in_vain(space, request, refusal)?;
+            }
+        }
+    }
+    Ok(())
+}
+
+fn ask_in_vain(
+    space: &mut AddressSpace,
+    request: Request,
+    refusal: Refusal,
+) -> Result<(), Box<dyn Error>> {
+    let before = space.clone();
+    let done = space.bind(request);
+    if done != Err(Failure::Refused(refusal)) || *space != before {
+        return Err("a sparse range was not left as it is".into());
+    }
+    println!("  refused: {refusal}");
+    space.compare()
 }
 
 fn run() -> Result<(), Box<dyn Error>> {
@@ -505,6 +664,8 @@ fn run() -> Result<(), Box<dyn Error>> {
         table: Stored {
             words: [0; TABLE_WORDS],
             count: 0,
+            ranges: [0; RANGE_WORDS],
+            range_count: 0,
         },
         operations: [0; LIST_WORDS],
         pages: PageTable {
@@ -516,15 +677,17 @@ fn run() -> Result<(), Box<dyn Error>> {
     };
     ask(&mut space)?;
     ask_by_record(&mut space)?;
-    ask_with_broken_table(&space)?;
     ask_without_memory(&mut space)?;
+    ask_for_sparse(&mut space)?;
+    ask_with_broken_table(&space)?;
     space.print();
-    for address in [0x10_0fff, 0x10_2010, 0x10_5000, 0x10_8000] {
+    for address in [0x10_0fff, 0x10_2010, 0x10_5000, 0x10_8000, 0x10_c000] {
         let seen = space.look_up(address)?;
-        print!("{address:#x} shows ");
+        print!("{address:#x} ");
         match seen.shown {
-            Shown::Nothing => print!("nothing"),
-            Shown::Object { object, offset } => print!("{}+{offset:#x}", name_of(object)),
+            Shown::Nothing => print!("shows nothing"),
+            Shown::Sparse => print!("is sparse"),
+            Shown::Object { object, offset } => print!("shows {}+{offset:#x}", name_of(object)),
         }
         println!(" up to {:#x}", address + seen.bytes);
     }

@@ -11,9 +11,9 @@
 //! let mut table = [0; table_words(2)];
 //! let mut list = [0; operation_list_words(2)];
 //! let request = Request::map(0x1000, 0x1000, 7, 0);
-//! let answer = ffi::bind(space, &mut table, 0, &mut list, request);
+//! let answer = ffi::bind(space, &[], 0, &mut table, 0, &mut list, request.into());
 //! assert_eq!((answer.refusal, answer.count), (0, 1));
-//! assert_eq!(ffi::lookup(space, &table, answer.count, 0x1008).offset, 8);
+//! assert_eq!(ffi::lookup(space, &[], 0, &table, answer.count, 0x1008).offset, 8);
 //! ```
 
 #![allow(unsafe_code)]
@@ -25,7 +25,7 @@ use crate::{Request, Space};
 /// ```
 /// use waylluqen::{ffi, Space};
 ///
-/// let seen = ffi::lookup(Space::new(0, 0x1_0000), &[0x1000, 0x1000, 7, 0], 1, 0x1008);
+/// let seen = ffi::lookup(Space::new(0, 0x1_0000), &[], 0, &[0x1000, 0x1000, 7, 0], 1, 0x1008);
 /// assert_eq!((seen.refusal, seen.place), (0, 0));
 /// assert_eq!((seen.shown, seen.object, seen.offset, seen.bytes), (1, 7, 8, 0xff8));
 /// ```
@@ -36,7 +36,7 @@ pub struct Translation {
     pub refusal: u64,
     /// The place of a mapping that is refused.
     pub place: u64,
-    /// What the address shows: 0 is nothing, 1 an object.
+    /// What the address shows: 0 is nothing, 1 an object, 2 sparse.
     pub shown: u64,
     /// The object that the address shows.
     pub object: u64,
@@ -46,14 +46,52 @@ pub struct Translation {
     pub bytes: u64,
 }
 
+/// A request by numbers, which has no flags: `waylluqen_request`.
+///
+/// ```
+/// use waylluqen::{ffi, Request};
+///
+/// let unmap = ffi::Numbers { op: 1, address: 0, size: 0x1000, object: 0, offset: 0 };
+/// assert_eq!(unmap, Request::unmap(0, 0x1000).into());
+/// ```
+#[repr(C)]
+#[derive(Clone, Copy, Debug, PartialEq, Eq)]
+pub struct Numbers {
+    /// 0 is map, 1 unmap.
+    pub op: u64,
+    /// The first address of the range.
+    pub address: u64,
+    /// The size of the range in bytes.
+    pub size: u64,
+    /// What is to be mapped.
+    pub object: u64,
+    /// The byte of the object that the first address is to show.
+    pub offset: u64,
+}
+
+impl From<Request> for Numbers {
+    /// All but the flags.
+    #[inline]
+    fn from(request: Request) -> Numbers {
+        Numbers {
+            op: request.op,
+            address: request.address,
+            size: request.size,
+            object: request.object,
+            offset: request.offset,
+        }
+    }
+}
+
 /// The answer to a request: `waylluqen_answer`.
 ///
 /// ```
 /// use waylluqen::{ffi, Request, Space};
 ///
-/// let unmap = Request::unmap(0, 0x1000);
-/// let answer = ffi::bind(Space::new(0, 0x1_0000), &mut [0; 4], 9, &mut [0; 28], unmap);
-/// assert_eq!(answer, ffi::Answer { refusal: 4, place: 0, operations: 0, count: 9 });
+/// let (space, unmap) = (Space::new(0, 0x1_0000), Request::unmap(0, 0x1000));
+/// let answer = ffi::bind(space, &[0; 2], 0, &mut [0; 4], 9, &mut [0; 28], unmap.into());
+/// let expected = ffi::Answer { refusal: 4, place: 0, operations: 0, count: 9, ranges: 0 };
+/// assert_eq!(answer, expected);
 /// ```
 #[repr(C)]
 #[derive(Clone, Copy, Debug, PartialEq, Eq)]
@@ -66,10 +104,12 @@ pub struct Answer {
     pub operations: u64,
     /// How many mappings the table has now; on a refusal the count that came in.
     pub count: u64,
+    /// How many sparse ranges the list has now; on a refusal the count that came in.
+    pub ranges: u64,
 }
 
 extern "C" {
-    fn waylluqen_interface_5() -> u32;
+    fn waylluqen_interface_6() -> u32;
 
     fn waylluqen_check_request(
         record: *const u8,
@@ -82,6 +122,9 @@ extern "C" {
 
     fn waylluqen_lookup(
         space: Space,
+        ranges: *const u64,
+        range_words: usize,
+        range_count: u64,
         table: *const u64,
         table_words: usize,
         count: u64,
@@ -90,16 +133,22 @@ extern "C" {
 
     fn waylluqen_bind(
         space: Space,
+        ranges: *const u64,
+        range_words: usize,
+        range_count: u64,
         table: *mut u64,
         table_words: usize,
         count: u64,
         operations: *mut u64,
         operation_words: usize,
-        request: Request,
+        request: Numbers,
     ) -> Answer;
 
     fn waylluqen_bind_record(
         space: Space,
+        ranges: *mut u64,
+        range_words: usize,
+        range_count: u64,
         table: *mut u64,
         table_words: usize,
         count: u64,
@@ -112,7 +161,7 @@ extern "C" {
 
 // Needs the archive that these declarations are of: with another one the program does not link.
 #[used]
-static INTERFACE: unsafe extern "C" fn() -> u32 = waylluqen_interface_5;
+static INTERFACE: unsafe extern "C" fn() -> u32 = waylluqen_interface_6;
 
 /// Calls `waylluqen_check_request`: the number of the first reason to refuse a record, or 0.
 ///
@@ -142,14 +191,32 @@ pub fn check_request(space: Space, record: &[u8]) -> u32 {
 /// ```
 /// use waylluqen::{ffi, Space};
 ///
-/// let seen = ffi::lookup(Space::new(0, 0x1_0000), &[0; 4], 0, 0x1000);
-/// assert_eq!((seen.refusal, seen.shown, seen.bytes), (0, 0, 0xf000));
+/// let seen = ffi::lookup(Space::new(0, 0x1_0000), &[0x2000, 0x4000], 1, &[0; 4], 0, 0x3000);
+/// assert_eq!((seen.refusal, seen.shown, seen.bytes), (0, 2, 0x3000));
 /// ```
 #[inline]
-pub fn lookup(space: Space, table: &[u64], count: u64, address: u64) -> Translation {
+pub fn lookup(
+    space: Space,
+    ranges: &[u64],
+    range_count: u64,
+    table: &[u64],
+    count: u64,
+    address: u64,
+) -> Translation {
     // SAFETY: a slice's pointer is aligned and not null, also where the slice is empty, and all its
     // words can be read. The call takes any numbers and writes nowhere.
-    unsafe { waylluqen_lookup(space, table.as_ptr(), table.len(), count, address) }
+    unsafe {
+        waylluqen_lookup(
+            space,
+            ranges.as_ptr(),
+            ranges.len(),
+            range_count,
+            table.as_ptr(),
+            table.len(),
+            count,
+            address,
+        )
+    }
 }
 
 /// Calls `waylluqen_bind`.
@@ -157,24 +224,30 @@ pub fn lookup(space: Space, table: &[u64], count: u64, address: u64) -> Translat
 /// ```
 /// use waylluqen::{ffi, Request, Space};
 ///
-/// let map = Request::map(0, 0x1000, 7, 0);
-/// let answer = ffi::bind(Space::new(0, 0x1_0000), &mut [0; 4], 0, &mut [0; 28], map);
-/// assert_eq!(answer, ffi::Answer { refusal: 0, place: 0, operations: 1, count: 1 });
+/// let (space, map) = (Space::new(0, 0x1_0000), Request::map(0, 0x1000, 7, 0));
+/// let answer = ffi::bind(space, &[], 0, &mut [0; 4], 0, &mut [0; 28], map.into());
+/// let expected = ffi::Answer { refusal: 0, place: 0, operations: 1, count: 1, ranges: 0 };
+/// assert_eq!(answer, expected);
 /// ```
 #[inline]
 pub fn bind(
     space: Space,
+    ranges: &[u64],
+    range_count: u64,
     table: &mut [u64],
     count: u64,
     operations: &mut [u64],
-    request: Request,
+    request: Numbers,
 ) -> Answer {
-    // SAFETY: the pointers of two exclusive slices are aligned and not null, also where a slice is
-    // empty, their words can be read and written, and they don't overlap. The call takes any
-    // numbers and writes nowhere else.
+    // SAFETY: the pointers of slices are aligned and not null, also where a slice is empty, and
+    // their words can be read. Those of the two exclusive slices can be written, and nothing
+    // overlaps them. The call takes any numbers and writes nowhere else.
     unsafe {
         waylluqen_bind(
             space,
+            ranges.as_ptr(),
+            ranges.len(),
+            range_count,
             table.as_mut_ptr(),
             table.len(),
             count,
@@ -190,25 +263,32 @@ pub fn bind(
 /// ```
 /// use waylluqen::{ffi, Space};
 ///
+/// let (space, mut ranges) = (Space::new(0, 0x1_0000), [0; 2]);
 /// let mut record = [0; 40];
-/// record[0] = 1; // unmap
+/// record[5] = 1; // map with the sparse flag
 /// record[33] = 0x10; // the first page
-/// let answer = ffi::bind_record(Space::new(0, 0x1_0000), &mut [0; 4], 0, &mut [0; 28], &record);
-/// assert_eq!(answer, ffi::Answer { refusal: 0, place: 0, operations: 0, count: 0 });
+/// let answer = ffi::bind_record(space, &mut ranges, 0, &mut [0; 4], 0, &mut [0; 28], &record);
+/// let expected = ffi::Answer { refusal: 0, place: 0, operations: 0, count: 0, ranges: 1 };
+/// assert_eq!((answer, ranges), (expected, [0, 0x1000]));
 /// ```
 #[inline]
 pub fn bind_record(
     space: Space,
+    ranges: &mut [u64],
+    range_count: u64,
     table: &mut [u64],
     count: u64,
     operations: &mut [u64],
     record: &[u8],
 ) -> Answer {
-    // SAFETY: as in `bind`; and all bytes of the record can be read, its pointer is not null, and
-    // an exclusive slice does not overlap it.
+    // SAFETY: as in `bind`, with three exclusive slices; and all bytes of the record can be read,
+    // its pointer is not null, and an exclusive slice does not overlap it.
     unsafe {
         waylluqen_bind_record(
             space,
+            ranges.as_mut_ptr(),
+            ranges.len(),
+            range_count,
             table.as_mut_ptr(),
             table.len(),
             count,

@@ -5,8 +5,10 @@
 //! unmap a range it asks [`Table::bind`], which cuts what is mapped there out of the table and
 //! gives the operations to carry out. [`Table::lookup`] tells what an address shows and how far
 //! that goes on, and [`Table::runs`] walks a range by it; so does a [`View`], a table by shared
-//! borrow. Nothing is asked of the words and the numbers: a table or a request that breaks a rule
-//! is refused with a [`Refusal`], and then no lent word has changed.
+//! borrow. A table can have sparse ranges beside it, as Vulkan's sparse residency needs them:
+//! [`Ranges`], in words that are lent too. Nothing is asked of the words and the numbers: a table, a
+//! list of ranges or a request that breaks a rule is refused with a [`Refusal`], and then no lent
+//! word has changed.
 //!
 //! The work is done by a proved static library; this crate gives it a safe Rust interface.
 //!
@@ -40,6 +42,7 @@
 pub mod ffi;
 mod mapping;
 mod operation;
+mod ranges;
 mod refusal;
 mod request;
 mod runs;
@@ -50,6 +53,7 @@ mod view;
 
 pub use mapping::Mapping;
 pub use operation::{Operation, Operations, Rests};
+pub use ranges::{Ranges, SparseRange};
 pub use refusal::Refusal;
 pub use request::{check_request, Request};
 pub use runs::{Run, Runs};
@@ -110,6 +114,19 @@ pub const MAX_OBJECT: u64 = 0xffff_ffff;
 /// ```
 pub const MAX_MAPPINGS: usize = 4096;
 
+/// A list of sparse ranges has room for 0 to this many.
+///
+/// ```
+/// use waylluqen::{range_words, Refusal, Space, View, MAX_RANGES, PAGE_SIZE};
+///
+/// let (space, view) = (Space::new(0, PAGE_SIZE), View::new(&[0; 4], 0));
+/// let longest = [0; range_words(MAX_RANGES)];
+/// assert!(view.with_ranges(&longest, 0).lookup(space, 0).is_ok());
+/// let longer = [0; range_words(MAX_RANGES + 1)];
+/// assert_eq!(view.with_ranges(&longer, 0).lookup(space, 0), Err(Refusal::BadRanges));
+/// ```
+pub const MAX_RANGES: usize = 64;
+
 /// A mapping in a table is this many words: address, size, object, offset.
 ///
 /// ```
@@ -119,6 +136,16 @@ pub const MAX_MAPPINGS: usize = 4096;
 /// assert_eq!(Mapping::from(words).size, 0x2000);
 /// ```
 pub const MAPPING_WORDS: usize = 4;
+
+/// A sparse range in a list is this many words: start, size.
+///
+/// ```
+/// use waylluqen::{SparseRange, RANGE_WORDS};
+///
+/// let words: [u64; RANGE_WORDS] = [0x1000, 0x2000];
+/// assert_eq!(SparseRange::from(words).size, 0x2000);
+/// ```
+pub const RANGE_WORDS: usize = 2;
 
 /// An operation is this many words; [`Operation::read`] reads them.
 ///
@@ -151,6 +178,18 @@ pub const RECORD_BYTES: usize = 40;
 /// ```
 pub const fn table_words(capacity: usize) -> usize {
     capacity * MAPPING_WORDS
+}
+
+/// How many words a list with room for `capacity` sparse ranges has.
+///
+/// ```
+/// use waylluqen::{range_words, Ranges};
+///
+/// let mut words = [0; range_words(8)];
+/// assert_eq!(Ranges::empty(&mut words).capacity(), 8);
+/// ```
+pub const fn range_words(capacity: usize) -> usize {
+    capacity * RANGE_WORDS
 }
 
 /// How many operation words a request on a table of that capacity is lent at least: no such

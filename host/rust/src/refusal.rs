@@ -4,8 +4,8 @@ use core::fmt;
 
 /// The first rule that a call's table, numbers or record break. No lent word has changed then.
 ///
-/// Where several apply, the answer is the first in the order 12, 13, 14, 1 to 5, 17, 6 to 11 of
-/// their [numbers](Refusal::number).
+/// Where several apply, the answer is the first in the order 12, 13, 14, 1 to 5, 17, 18, 6 to 10,
+/// 19, 20, 11 of their [numbers](Refusal::number).
 ///
 /// ```
 /// use waylluqen::{operation_list_words, Refusal, Request, Space, Table};
@@ -43,18 +43,20 @@ pub enum Refusal {
     OutsideSpace,
     /// The range shares a byte with the reservation.
     Reserved,
-    /// A map of object 0 or above [`MAX_OBJECT`](crate::MAX_OBJECT); an unmap with an object or an
-    /// offset.
+    /// A map of object 0 or above [`MAX_OBJECT`](crate::MAX_OBJECT); an unmap, or any request with
+    /// the [sparse flag](crate::Request::SPARSE), with an object or an offset.
     BadObject,
     /// A map whose offset plus size is above [`LIMIT`](crate::LIMIT).
     BadOffset,
-    /// There would be more mappings afterwards than the table has room for.
+    /// There would be more mappings afterwards than the table has room for, or more sparse ranges
+    /// than their list has room for.
     NoRoom,
     /// The record is not [`RECORD_BYTES`](crate::RECORD_BYTES) bytes long.
     BadRecordLength,
     /// The op is neither map nor unmap.
     BadOp,
-    /// The record's flags or pad is not 0.
+    /// The flags are neither 0 nor [`Request::SPARSE`](crate::Request::SPARSE), or a record's pad is
+    /// not 0.
     BadFlags,
     /// A word behind the table's last mapping is not 0.
     ///
@@ -78,6 +80,54 @@ pub enum Refusal {
     /// # Ok::<(), Refusal>(())
     /// ```
     StaleWords,
+    /// The list of sparse ranges breaks its rules, see [`Ranges`](crate::Ranges).
+    ///
+    /// Words that a [`Table`](crate::Table) alone writes, with the count that it gives, are never
+    /// refused so.
+    ///
+    /// ```
+    /// use waylluqen::{Refusal, Space, View};
+    ///
+    /// let space = Space::new(0, 0x1_0000);
+    /// let view = View::new(&[0; 4], 0);
+    /// let touching = [0x1000, 0x1000, 0x2000, 0x1000];
+    /// assert!(view.with_ranges(&touching, 2).lookup(space, 0).is_ok());
+    /// let overlapping = [0x1000, 0x2000, 0x2000, 0x1000];
+    /// let refused = view.with_ranges(&overlapping, 2).lookup(space, 0);
+    /// assert_eq!(refused, Err(Refusal::BadRanges));
+    /// ```
+    BadRanges,
+    /// A map with the [sparse flag](crate::Request::SPARSE) shares a byte with a sparse range.
+    ///
+    /// ```
+    /// use waylluqen::{operation_list_words, Ranges, Refusal, Request, Space, Table};
+    ///
+    /// let space = Space::new(0, 0x1_0000);
+    /// let (mut words, mut range_words) = ([0; 4], [0x2000, 0x1000, 0, 0]);
+    /// let mut list = [0; operation_list_words(1)];
+    /// let ranges = Ranges::with_count(&mut range_words, 1);
+    /// let mut table = Table::empty(&mut words).with_ranges(ranges);
+    /// let refused = table.bind(space, Request::map_sparse(0x1000, 0x2000), &mut list).err();
+    /// assert_eq!(refused, Some(Refusal::RangeOverlaps));
+    /// assert!(table.bind(space, Request::map_sparse(0x1000, 0x1000), &mut list).is_ok());
+    /// ```
+    RangeOverlaps,
+    /// For an unmap with the [sparse flag](crate::Request::SPARSE): no sparse range has exactly its
+    /// start and size, or a mapping shares a byte with it.
+    ///
+    /// ```
+    /// use waylluqen::{operation_list_words, Ranges, Refusal, Request, Space, Table};
+    ///
+    /// let space = Space::new(0, 0x1_0000);
+    /// let (mut words, mut range_words) = ([0; 4], [0x2000, 0x2000]);
+    /// let mut list = [0; operation_list_words(1)];
+    /// let ranges = Ranges::with_count(&mut range_words, 1);
+    /// let mut table = Table::empty(&mut words).with_ranges(ranges);
+    /// let refused = table.bind(space, Request::unmap_sparse(0x2000, 0x1000), &mut list).err();
+    /// assert_eq!(refused, Some(Refusal::NoSuchRange));
+    /// assert!(table.bind(space, Request::unmap_sparse(0x2000, 0x2000), &mut list).is_ok());
+    /// ```
+    NoSuchRange,
 }
 
 impl Refusal {
@@ -88,7 +138,8 @@ impl Refusal {
     ///
     /// assert_eq!(Refusal::NoRoom.number(), 11);
     /// assert_eq!(Refusal::BadMapping { place: 3 }.number(), 5);
-    /// assert_eq!(Refusal::StaleWords.number(), 17);
+    /// let sparse = [Refusal::BadRanges, Refusal::RangeOverlaps, Refusal::NoSuchRange];
+    /// assert_eq!(sparse.map(Refusal::number), [18, 19, 20]);
     /// ```
     pub const fn number(self) -> u32 {
         match self {
@@ -107,6 +158,9 @@ impl Refusal {
             Refusal::BadOp => 13,
             Refusal::BadFlags => 14,
             Refusal::StaleWords => 17,
+            Refusal::BadRanges => 18,
+            Refusal::RangeOverlaps => 19,
+            Refusal::NoSuchRange => 20,
         }
     }
 
@@ -137,6 +191,9 @@ impl Refusal {
             13 => Refusal::BadOp,
             14 => Refusal::BadFlags,
             17 => Refusal::StaleWords,
+            18 => Refusal::BadRanges,
+            19 => Refusal::RangeOverlaps,
+            20 => Refusal::NoSuchRange,
             _ => unreachable!("the library is proved to answer no other number"),
         }
     }
@@ -157,11 +214,14 @@ impl fmt::Display for Refusal {
             Refusal::Reserved => "the range shares a byte with the reservation",
             Refusal::BadObject => "the object is not one that can be asked for",
             Refusal::BadOffset => "the offset plus the size is too high",
-            Refusal::NoRoom => "the table has no room for the mappings afterwards",
+            Refusal::NoRoom => "there is no room for the mappings or ranges afterwards",
             Refusal::BadRecordLength => "the record is not 40 bytes long",
             Refusal::BadOp => "the op is neither map nor unmap",
-            Refusal::BadFlags => "flags or pad is not 0",
+            Refusal::BadFlags => "the flags are not known, or pad is not 0",
             Refusal::StaleWords => "a word behind the table's last mapping is not 0",
+            Refusal::BadRanges => "the list of sparse ranges breaks its rules",
+            Refusal::RangeOverlaps => "the range shares a byte with a sparse range",
+            Refusal::NoSuchRange => "there is no such sparse range, or a mapping is in it",
         })
     }
 }

@@ -1,6 +1,6 @@
 //! A request, by numbers or as a record.
 
-use crate::{ffi, Refusal, Space};
+use crate::{ffi, Refusal, Space, RECORD_BYTES};
 
 /// A request by numbers. Any numbers are allowed; [`Table::bind`](crate::Table::bind) refuses those
 /// that break a rule.
@@ -8,21 +8,23 @@ use crate::{ffi, Refusal, Space};
 /// ```
 /// use waylluqen::Request;
 ///
-/// let request = Request { op: Request::UNMAP, address: 0x1000, size: 0x1000, object: 0, offset: 0 };
+/// let (op, flags) = (Request::UNMAP, 0);
+/// let request = Request { op, flags, address: 0x1000, size: 0x1000, object: 0, offset: 0 };
 /// assert_eq!(request, Request::unmap(0x1000, 0x1000));
 /// ```
-#[repr(C)]
 #[derive(Clone, Copy, Debug, PartialEq, Eq, Hash)]
 pub struct Request {
     /// [`Request::MAP`] or [`Request::UNMAP`].
     pub op: u64,
+    /// 0, or [`Request::SPARSE`].
+    pub flags: u64,
     /// The first address of the range.
     pub address: u64,
     /// The size of the range in bytes.
     pub size: u64,
-    /// What is to be mapped; 0 for an unmap.
+    /// What is to be mapped; 0 for an unmap, and with a flag.
     pub object: u64,
-    /// The byte of the object that the first address is to show; 0 for an unmap.
+    /// The byte of the object that the first address is to show; 0 for an unmap, and with a flag.
     pub offset: u64,
 }
 
@@ -45,6 +47,25 @@ impl Request {
     /// ```
     pub const UNMAP: u64 = 1;
 
+    /// The flag with which a map adds a sparse range, and an unmap removes one.
+    ///
+    /// ```
+    /// use waylluqen::{operation_list_words, Refusal, Request, Space, Table};
+    ///
+    /// let space = Space::new(0, 0x1_0000);
+    /// let mut words = [0; 4];
+    /// let mut list = [0; operation_list_words(1)];
+    /// let mut table = Table::empty(&mut words);
+    /// let sparse = Request::map_sparse(0, 0x1000);
+    /// assert_eq!(sparse.flags, Request::SPARSE);
+    ///
+    /// // It is the only flag.
+    /// let other = Request { flags: 2 * Request::SPARSE, ..sparse };
+    /// let refused = table.bind(space, other, &mut list).err();
+    /// assert_eq!(refused, Some(Refusal::BadFlags));
+    /// ```
+    pub const SPARSE: u64 = 256;
+
     /// Asks that `[address, address + size)` show an object from an offset on.
     ///
     /// ```
@@ -55,6 +76,7 @@ impl Request {
     pub const fn map(address: u64, size: u64, object: u64, offset: u64) -> Request {
         Request {
             op: Request::MAP,
+            flags: 0,
             address,
             size,
             object,
@@ -62,7 +84,7 @@ impl Request {
         }
     }
 
-    /// Asks that `[address, address + size)` show nothing.
+    /// Asks that `[address, address + size)` show no object.
     ///
     /// ```
     /// let request = waylluqen::Request::unmap(0x1000, 0x2000);
@@ -71,16 +93,80 @@ impl Request {
     pub const fn unmap(address: u64, size: u64) -> Request {
         Request {
             op: Request::UNMAP,
+            flags: 0,
             address,
             size,
             object: 0,
             offset: 0,
         }
     }
+
+    /// Asks that `[address, address + size)` be a sparse range. It may lie over mappings, and touch
+    /// other sparse ranges, with which it is not joined.
+    ///
+    /// ```
+    /// use waylluqen::{operation_list_words, Ranges, Request, Shown, Space, Table};
+    ///
+    /// let space = Space::new(0, 0x1_0000);
+    /// let (mut words, mut range_words) = ([0; 4], [0; waylluqen::range_words(1)]);
+    /// let mut list = [0; operation_list_words(1)];
+    /// let mut table = Table::empty(&mut words).with_ranges(Ranges::empty(&mut range_words));
+    /// let operations = table.bind(space, Request::map_sparse(0x1000, 0x4000), &mut list)?;
+    /// assert_eq!(operations.len(), 0);
+    /// let seen = table.lookup(space, 0x2000)?;
+    /// assert_eq!((seen.shown, seen.bytes), (Shown::Sparse, 0x3000));
+    /// # Ok::<(), waylluqen::Refusal>(())
+    /// ```
+    pub const fn map_sparse(address: u64, size: u64) -> Request {
+        Request {
+            flags: Request::SPARSE,
+            ..Request::map(address, size, 0, 0)
+        }
+    }
+
+    /// Asks that the sparse range with exactly this start and size be one no longer. As long as a
+    /// mapping shares a byte with it, that is refused.
+    ///
+    /// ```
+    /// use waylluqen::{operation_list_words, Ranges, Refusal, Request, Space, Table};
+    ///
+    /// let space = Space::new(0, 0x1_0000);
+    /// let (mut words, mut range_words) = ([0x1000, 0x1000, 7, 0], [0x1000, 0x4000]);
+    /// let mut list = [0; operation_list_words(1)];
+    /// let ranges = Ranges::with_count(&mut range_words, 1);
+    /// let mut table = Table::with_count(&mut words, 1).with_ranges(ranges);
+    /// let unmap = Request::unmap_sparse(0x1000, 0x4000);
+    /// assert_eq!(table.bind(space, unmap, &mut list).err(), Some(Refusal::NoSuchRange));
+    ///
+    /// let _ = table.bind(space, Request::unmap(0x1000, 0x1000), &mut list)?;
+    /// let _ = table.bind(space, unmap, &mut list)?;
+    /// assert_eq!(table.ranges().count(), 0);
+    /// # Ok::<(), Refusal>(())
+    /// ```
+    pub const fn unmap_sparse(address: u64, size: u64) -> Request {
+        Request {
+            flags: Request::SPARSE,
+            ..Request::unmap(address, size)
+        }
+    }
+
+    /// The request as a record: the same is refused of both. A number that a record has no room for
+    /// becomes the highest that it has room for, which is no better an op, flag or object.
+    pub(crate) fn record(self) -> [u8; RECORD_BYTES] {
+        let mut record = [0; RECORD_BYTES];
+        let short = |number: u64| u32::try_from(number).unwrap_or(u32::MAX).to_le_bytes();
+        record[0..4].copy_from_slice(&short(self.op));
+        record[4..8].copy_from_slice(&short(self.flags));
+        record[8..12].copy_from_slice(&short(self.object));
+        record[16..24].copy_from_slice(&self.address.to_le_bytes());
+        record[24..32].copy_from_slice(&self.offset.to_le_bytes());
+        record[32..40].copy_from_slice(&self.size.to_le_bytes());
+        record
+    }
 }
 
-/// What is wrong with a request record, whatever the table; for a driver that turns a bad request
-/// down before it takes any lock.
+/// What is wrong with a request record, whatever the table and its sparse ranges; for a driver that
+/// turns a bad request down before it takes any lock.
 ///
 /// A record is 40 bytes, each field little-endian: `op`, `flags`, `handle` and `pad` of four bytes,
 /// `addr`, `bo_offset` and `range` of eight.

@@ -4,8 +4,8 @@ use crate::{Refusal, Shown, Space, View};
 use core::iter::FusedIterator;
 use core::ops::Range;
 
-/// A part of a range that goes on in the same way: what the range has of one mapping, or of what
-/// shows nothing up to the next one.
+/// A part of a range that goes on in the same way: what the range has of one mapping, or of what is
+/// sparse or shows nothing up to the next mapping or the next edge of a sparse range.
 ///
 /// ```
 /// use waylluqen::{Run, Shown, Space, View};
@@ -28,7 +28,8 @@ pub struct Run {
 
 /// The runs of a range in ascending order, one behind the other; [`View::runs`] gives them.
 ///
-/// Each run is one look-up, which checks the table. One that is refused is the last.
+/// Each run is one look-up, which checks the table and the sparse ranges. One that is refused is the
+/// last.
 ///
 /// ```
 /// use waylluqen::{Shown, Space, View};
@@ -40,7 +41,7 @@ pub struct Run {
 ///         let run = run?;
 ///         match run.shown {
 ///             Shown::Object { .. } => bytes += run.bytes,
-///             Shown::Nothing => {}
+///             Shown::Sparse | Shown::Nothing => {}
 ///         }
 ///     }
 ///     Ok(bytes)

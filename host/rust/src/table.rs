@@ -1,6 +1,6 @@
 //! A table of mappings in lent words.
 
-use crate::{ffi, Mapping, Operations, Refusal, Request, Runs, Seen, Space, View};
+use crate::{ffi, Mapping, Operations, Ranges, Refusal, Request, Runs, Seen, Space, View};
 use core::ops::Range;
 
 /// The mappings of a space, in lent words, and their count.
@@ -8,6 +8,8 @@ use core::ops::Range;
 /// The mappings stand at the front in ascending order, four words each: address, size, object,
 /// offset. All words behind them are 0. Any words and any count are allowed; each call checks them,
 /// and refuses a table that breaks a rule.
+///
+/// A table can have sparse ranges beside it, see [`Table::with_ranges`].
 ///
 /// ```
 /// use waylluqen::{operation_list_words, table_words, Request, Shown, Space, Table};
@@ -26,10 +28,11 @@ use core::ops::Range;
 pub struct Table<'a> {
     words: &'a mut [u64],
     count: u64,
+    ranges: Ranges<'a>,
 }
 
 impl<'a> Table<'a> {
-    /// An empty table: all words become 0.
+    /// An empty table: all words become 0. It has no sparse ranges, and no room for any.
     ///
     /// ```
     /// let mut words = [9; waylluqen::table_words(2)];
@@ -39,10 +42,11 @@ impl<'a> Table<'a> {
     /// ```
     pub fn empty(words: &'a mut [u64]) -> Table<'a> {
         words.fill(0);
-        Table { words, count: 0 }
+        Table::with_count(words, 0)
     }
 
-    /// The table of `count` mappings that the words hold, such as an earlier [`Table`] left them.
+    /// The table of `count` mappings that the words hold, such as an earlier [`Table`] left them. It
+    /// has no sparse ranges, and no room for any.
     ///
     /// No word is changed. Those behind the last mapping have to be 0, also where the words were
     /// copied to a longer slice; with a count that is too low they are not, and each call is refused
@@ -65,7 +69,58 @@ impl<'a> Table<'a> {
     /// assert_eq!(refused, Err(Refusal::BadMapping { place: 1 }));
     /// ```
     pub fn with_count(words: &'a mut [u64], count: u64) -> Table<'a> {
-        Table { words, count }
+        Table {
+            words,
+            count,
+            ranges: Ranges::default(),
+        }
+    }
+
+    /// The same table with these sparse ranges: look-ups see them, and requests with the
+    /// [sparse flag](Request::SPARSE) change them.
+    ///
+    /// ```
+    /// use waylluqen::{operation_list_words, range_words, table_words};
+    /// use waylluqen::{Ranges, Refusal, Request, Shown, Space, Table};
+    ///
+    /// let space = Space::new(0, 0x1_0000);
+    /// let (mut words, mut range_words) = ([0; table_words(2)], [0; range_words(1)]);
+    /// let mut list = [0; operation_list_words(2)];
+    /// let mut table = Table::empty(&mut words).with_ranges(Ranges::empty(&mut range_words));
+    /// // A sparse texture, of which one tile has memory for a while.
+    /// let _ = table.bind(space, Request::map_sparse(0x4000, 0x8000), &mut list)?;
+    /// let _ = table.bind(space, Request::map(0x5000, 0x1000, 7, 0), &mut list)?;
+    /// let _ = table.bind(space, Request::unmap(0x5000, 0x1000), &mut list)?;
+    /// assert_eq!(table.lookup(space, 0x5000)?.shown, Shown::Sparse);
+    /// let _ = table.bind(space, Request::unmap_sparse(0x4000, 0x8000), &mut list)?;
+    /// assert_eq!(table.lookup(space, 0x5000)?.shown, Shown::Nothing);
+    ///
+    /// // Without room for ranges there can be none.
+    /// let mut table = Table::empty(&mut words);
+    /// let refused = table.bind(space, Request::map_sparse(0x4000, 0x8000), &mut list).err();
+    /// assert_eq!(refused, Some(Refusal::NoRoom));
+    /// # Ok::<(), Refusal>(())
+    /// ```
+    #[must_use]
+    pub fn with_ranges(self, ranges: Ranges<'a>) -> Table<'a> {
+        Table { ranges, ..self }
+    }
+
+    /// Its sparse ranges.
+    ///
+    /// ```
+    /// use waylluqen::{Ranges, SparseRange, Table};
+    ///
+    /// let (mut words, mut range_words) = ([0; 4], [0x1000, 0x4000, 0, 0]);
+    /// let ranges = Ranges::with_count(&mut range_words, 1);
+    /// let table = Table::empty(&mut words).with_ranges(ranges);
+    /// assert_eq!((table.ranges().count(), table.ranges().capacity()), (1, 2));
+    /// assert!(table.ranges().iter().eq([SparseRange { start: 0x1000, size: 0x4000 }]));
+    /// assert_eq!(Table::empty(&mut [0; 4]).ranges().capacity(), 0);
+    /// ```
+    #[inline]
+    pub fn ranges(&self) -> &Ranges<'a> {
+        &self.ranges
     }
 
     /// The table by shared borrow.
@@ -83,7 +138,7 @@ impl<'a> Table<'a> {
     /// ```
     #[inline]
     pub fn view(&self) -> View<'_> {
-        View::new(self.words, self.count)
+        View::new(self.words, self.count).with_ranges(self.ranges.words, self.ranges.count)
     }
 
     /// How many mappings there are.
@@ -137,8 +192,8 @@ impl<'a> Table<'a> {
     /// # Errors
     ///
     /// The first of [`BadSpace`](Refusal::BadSpace), [`BadTableLength`](Refusal::BadTableLength),
-    /// [`BadCount`](Refusal::BadCount), [`BadMapping`](Refusal::BadMapping) and
-    /// [`StaleWords`](Refusal::StaleWords) that applies.
+    /// [`BadCount`](Refusal::BadCount), [`BadMapping`](Refusal::BadMapping),
+    /// [`StaleWords`](Refusal::StaleWords) and [`BadRanges`](Refusal::BadRanges) that applies.
     ///
     /// ```
     /// use waylluqen::{Refusal, Seen, Shown, Space, Table};
@@ -183,19 +238,26 @@ impl<'a> Table<'a> {
     /// `list`.
     ///
     /// A mapping that shares a byte with the range is cut: what is outside the range stays. Each
-    /// page of the range then shows what was asked, and every other page what it showed before.
+    /// page of a mapped range then shows what was asked, each page of an unmapped one is sparse or
+    /// shows nothing, as the sparse ranges say, and every other page shows what it showed before.
     /// All words behind the table's mappings are 0; the list's words behind the operations stay.
+    ///
+    /// With the [sparse flag](Request::SPARSE) a sparse range is added or removed, and nothing else
+    /// changes: there are no operations. A driver then writes the page entries by itself, see
+    /// `Sparse ranges` in `include/waylluqen.h`.
     ///
     /// # Errors
     ///
-    /// The first of [`BadOp`](Refusal::BadOp), [`BadSpace`](Refusal::BadSpace),
-    /// [`BadTableLength`](Refusal::BadTableLength), [`ShortOperations`](Refusal::ShortOperations),
-    /// [`BadCount`](Refusal::BadCount), [`BadMapping`](Refusal::BadMapping),
-    /// [`StaleWords`](Refusal::StaleWords), [`Unaligned`](Refusal::Unaligned),
+    /// The first of [`BadOp`](Refusal::BadOp), [`BadFlags`](Refusal::BadFlags),
+    /// [`BadSpace`](Refusal::BadSpace), [`BadTableLength`](Refusal::BadTableLength),
+    /// [`ShortOperations`](Refusal::ShortOperations), [`BadCount`](Refusal::BadCount),
+    /// [`BadMapping`](Refusal::BadMapping), [`StaleWords`](Refusal::StaleWords),
+    /// [`BadRanges`](Refusal::BadRanges), [`Unaligned`](Refusal::Unaligned),
     /// [`OutsideSpace`](Refusal::OutsideSpace), [`Reserved`](Refusal::Reserved),
-    /// [`BadObject`](Refusal::BadObject), [`BadOffset`](Refusal::BadOffset) and
-    /// [`NoRoom`](Refusal::NoRoom) that applies. No word of the table or of the list has changed
-    /// then.
+    /// [`BadObject`](Refusal::BadObject), [`BadOffset`](Refusal::BadOffset),
+    /// [`RangeOverlaps`](Refusal::RangeOverlaps), [`NoSuchRange`](Refusal::NoSuchRange) and
+    /// [`NoRoom`](Refusal::NoRoom) that applies. No word of the table, of the sparse ranges or of the
+    /// list has changed then.
     ///
     /// ```
     /// use waylluqen::{operation_list_words, table_words, Refusal, Request, Space, Table};
@@ -220,7 +282,21 @@ impl<'a> Table<'a> {
         request: Request,
         list: &'o mut [u64],
     ) -> Result<Operations<'o>, Refusal> {
-        let answer = ffi::bind(space, self.words, self.count, list, request);
+        if request.flags != 0 {
+            // Only a record has flags.
+            return self.bind_record(space, &request.record(), list);
+        }
+        let (ranges, range_count) = (&*self.ranges.words, self.ranges.count);
+        let request = request.into();
+        let answer = ffi::bind(
+            space,
+            ranges,
+            range_count,
+            self.words,
+            self.count,
+            list,
+            request,
+        );
         self.take(answer, list)
     }
 
@@ -229,8 +305,8 @@ impl<'a> Table<'a> {
     ///
     /// # Errors
     ///
-    /// The first of [`BadRecordLength`](Refusal::BadRecordLength), [`BadOp`](Refusal::BadOp) and
-    /// [`BadFlags`](Refusal::BadFlags) that applies, else what [`bind`](Table::bind) gives.
+    /// [`BadRecordLength`](Refusal::BadRecordLength) if that applies, else what
+    /// [`bind`](Table::bind) gives. A pad that is not 0 is [`BadFlags`](Refusal::BadFlags) too.
     ///
     /// ```
     /// use waylluqen::{operation_list_words, Mapping, Operation, Refusal, Space, Table};
@@ -257,11 +333,20 @@ impl<'a> Table<'a> {
         record: &[u8],
         list: &'o mut [u64],
     ) -> Result<Operations<'o>, Refusal> {
-        let answer = ffi::bind_record(space, self.words, self.count, list, record);
+        let (ranges, range_count) = (&mut *self.ranges.words, self.ranges.count);
+        let answer = ffi::bind_record(
+            space,
+            ranges,
+            range_count,
+            self.words,
+            self.count,
+            list,
+            record,
+        );
         self.take(answer, list)
     }
 
-    /// Takes the count that an answer gives, and reads the operations that it wrote.
+    /// Takes the counts that an answer gives, and reads the operations that it wrote.
     #[inline]
     fn take<'o>(
         &mut self,
@@ -270,6 +355,7 @@ impl<'a> Table<'a> {
     ) -> Result<Operations<'o>, Refusal> {
         Refusal::check(answer.refusal, answer.place)?;
         self.count = answer.count;
+        self.ranges.count = answer.ranges;
         Ok(Operations::new(list, answer.operations))
     }
 }

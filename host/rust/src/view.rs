@@ -1,6 +1,6 @@
 //! A table by shared borrow: all that can be asked of its words without a change.
 
-use crate::{ffi, Mapping, Refusal, Runs, Seen, Space, MAPPING_WORDS};
+use crate::{ffi, ranges, Mapping, Refusal, Runs, Seen, Space, SparseRange, MAPPING_WORDS};
 use core::ops::Range;
 
 /// The mappings of a space by shared borrow: the words and the count of a
@@ -30,11 +30,13 @@ use core::ops::Range;
 pub struct View<'a> {
     words: &'a [u64],
     count: u64,
+    range_words: &'a [u64],
+    range_count: u64,
 }
 
 impl<'a> View<'a> {
-    /// The table of `count` mappings that the words hold, with zeros behind them. Any words and any
-    /// count are allowed; each look-up checks them.
+    /// The table of `count` mappings that the words hold, with zeros behind them, and without sparse
+    /// ranges. Any words and any count are allowed; each look-up checks them.
     ///
     /// ```
     /// use waylluqen::{Shown, Space, View};
@@ -49,7 +51,7 @@ impl<'a> View<'a> {
     ///     fn is_mapped(&self, address: u64) -> bool {
     ///         let view = View::new(&self.words, self.count);
     ///         let seen = view.lookup(self.bounds, address);
-    ///         seen.is_ok_and(|seen| seen.shown != Shown::Nothing)
+    ///         seen.is_ok_and(|seen| matches!(seen.shown, Shown::Object { .. }))
     ///     }
     /// }
     ///
@@ -59,7 +61,36 @@ impl<'a> View<'a> {
     /// ```
     #[inline]
     pub const fn new(words: &'a [u64], count: u64) -> View<'a> {
-        View { words, count }
+        View {
+            words,
+            count,
+            range_words: &[],
+            range_count: 0,
+        }
+    }
+
+    /// The same table with the `range_count` sparse ranges that these words hold, as
+    /// [`Ranges`](crate::Ranges) has them.
+    ///
+    /// ```
+    /// use waylluqen::{Seen, Shown, Space, View};
+    ///
+    /// let space = Space::new(0, 0x1_0000);
+    /// let view = View::new(&[0x2000, 0x1000, 7, 0], 1).with_ranges(&[0x1000, 0x4000, 0, 0], 1);
+    /// let sparse = |bytes| Ok(Seen { shown: Shown::Sparse, bytes });
+    /// assert_eq!(view.lookup(space, 0x1000), sparse(0x1000)); // up to the mapping
+    /// assert_eq!(view.lookup(space, 0x3000), sparse(0x2000)); // up to the range's end
+    /// assert_eq!(view.lookup(space, 0x5000)?.shown, Shown::Nothing);
+    /// # Ok::<(), waylluqen::Refusal>(())
+    /// ```
+    #[inline]
+    #[must_use]
+    pub const fn with_ranges(self, range_words: &'a [u64], range_count: u64) -> View<'a> {
+        View {
+            range_words,
+            range_count,
+            ..self
+        }
     }
 
     /// How many mappings there are.
@@ -113,14 +144,27 @@ impl<'a> View<'a> {
         words.filter_map(mapping)
     }
 
+    /// The sparse ranges as they stand, unchecked: no more than their count, and no more than there
+    /// is room for.
+    ///
+    /// ```
+    /// use waylluqen::{SparseRange, View};
+    ///
+    /// let view = View::new(&[0; 4], 0).with_ranges(&[0x1000, 0x4000, 0, 0], 1);
+    /// assert!(view.ranges().eq([SparseRange::from([0x1000, 0x4000])]));
+    /// ```
+    pub fn ranges(self) -> impl Iterator<Item = SparseRange> + 'a {
+        ranges::read(self.range_words, self.range_count)
+    }
+
     /// Tells what the byte at `address` shows, and how far that goes on. Any address will do, also
     /// one outside the space.
     ///
     /// # Errors
     ///
     /// The first of [`BadSpace`](Refusal::BadSpace), [`BadTableLength`](Refusal::BadTableLength),
-    /// [`BadCount`](Refusal::BadCount), [`BadMapping`](Refusal::BadMapping) and
-    /// [`StaleWords`](Refusal::StaleWords) that applies.
+    /// [`BadCount`](Refusal::BadCount), [`BadMapping`](Refusal::BadMapping),
+    /// [`StaleWords`](Refusal::StaleWords) and [`BadRanges`](Refusal::BadRanges) that applies.
     ///
     /// ```
     /// use waylluqen::{Refusal, Seen, Shown, Space, View};
@@ -137,14 +181,15 @@ impl<'a> View<'a> {
     /// ```
     #[inline]
     pub fn lookup(self, space: Space, address: u64) -> Result<Seen, Refusal> {
-        let answer = ffi::lookup(space, self.words, self.count, address);
+        let (ranges, range_count) = (self.range_words, self.range_count);
+        let answer = ffi::lookup(space, ranges, range_count, self.words, self.count, address);
         Refusal::check(answer.refusal, answer.place)?;
         Ok(Seen::read(answer))
     }
 
     /// Walks a range by what look-ups tell of how far an answer goes on: one look-up a run, each of
-    /// which checks the table, with the words behind its last mapping. The last run is cut at the
-    /// range's end.
+    /// which checks the table and the sparse ranges, with the words behind them. The last run is cut
+    /// at the range's end.
     ///
     /// The walk ends at the space's end, so that a range that starts outside has no run, also where
     /// it goes on inside. An empty range has none either, and nothing is looked up. A look-up that
@@ -164,6 +209,16 @@ impl<'a> View<'a> {
     ///     Run { address: 0x4000, bytes: 0x4000, shown: Shown::Nothing },
     /// ];
     /// assert_eq!(runs, expected);
+    ///
+    /// // Sparse ranges are told apart too, but not below a mapping.
+    /// let view = view.with_ranges(&[0x1000, 0x3000, 0x5000, 0x1000, 0x6000, 0x1000], 3);
+    /// let mut runs = view.runs(space, 0x3000..0x1_0000);
+    /// assert_eq!(runs.next(), Some(Ok(expected[1])));
+    /// for shown in [Shown::Nothing, Shown::Sparse, Shown::Sparse, Shown::Nothing] {
+    ///     let run = runs.next().unwrap()?;
+    ///     assert_eq!((run.shown, run.bytes), (shown, 0x1000));
+    /// }
+    /// assert_eq!(runs.next(), None);
     /// # Ok::<(), waylluqen::Refusal>(())
     /// ```
     #[inline]

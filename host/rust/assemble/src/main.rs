@@ -2,13 +2,12 @@
 
 #![forbid(unsafe_code)]
 
-mod text;
-
 use std::ffi::{OsStr, OsString};
 use std::os::unix::ffi::OsStrExt;
 use std::process::ExitCode;
 use waylluqen_assemble::quote::named;
 use waylluqen_assemble::stream::{read, tell, write};
+use waylluqen_assemble::text;
 
 const USAGE: &str = "usage: assemble [-h] [file]\n";
 
@@ -18,6 +17,8 @@ Makes the bytes of a script for vmbind from a readable text, one record a line:
   SP start size [reserved-start reserved-size]   a space; with two numbers nothing is reserved
   map address size object offset                 a request, in the order of a printed mapping
   unmap address size                             a request
+  map-sparse address size                        a request, with the flag: a sparse range is added
+  unmap-sparse address size                      a request, with the flag: one is removed
   RQ op flags handle pad addr bo_offset range    a request, every field of its record
   LK address                                     a look-up
   bytes 58 59 ff                                 bytes in hex, for scripts that are broken

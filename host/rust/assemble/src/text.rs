@@ -1,7 +1,7 @@
 //! The lines of a text, and the bytes of their records.
 
-use waylluqen_assemble::number::{parse, parse_at};
-use waylluqen_assemble::quote::quoted;
+use crate::number::{parse, parse_at};
+use crate::quote::quoted;
 
 /// The longest text that is read, in MiB: far more than one that somebody wrote.
 pub const MOST_TEXT: u64 = 64;
@@ -30,12 +30,15 @@ const REQUEST: &[Field] = &[
 ];
 const LOOKUP: &[Field] = &[("address", 8)];
 const MAP: &[Field] = &[("address", 8), ("size", 8), ("object", 4), ("offset", 8)];
-const UNMAP: &[Field] = &[("address", 8), ("size", 8)];
+const RANGE: &[Field] = &[("address", 8), ("size", 8)];
 const MOST_FIELDS: usize = REQUEST.len();
 
 /// The values of `op`.
 const OP_MAP: u64 = 0;
 const OP_UNMAP: u64 = 1;
+
+/// The flag of a request for a sparse range.
+const FLAG_SPARSE: u64 = 256;
 
 /// The first line that is bad, and what is wrong with it.
 #[derive(Debug, PartialEq)]
@@ -76,7 +79,7 @@ fn fields_of(kind: &str) -> Option<&'static [Field]> {
         "RQ" => Some(REQUEST),
         "LK" => Some(LOOKUP),
         "map" => Some(MAP),
-        "unmap" => Some(UNMAP),
+        "unmap" | "map-sparse" | "unmap-sparse" => Some(RANGE),
         _ => None,
     }
 }
@@ -171,17 +174,29 @@ fn put_record<'a>(
     // A space of two numbers has no reservation.
     numbers.resize(fields.len(), 0);
     let values = fitted(fields, &numbers)?;
-    match (kind, &values[..]) {
-        ("map", &[address, size, object, offset]) => {
-            let values = [OP_MAP, 0, object, 0, address, offset, size];
-            put("RQ", REQUEST, &values, script)
-        }
-        ("unmap", &[address, size]) => {
-            let values = [OP_UNMAP, 0, 0, 0, address, 0, size];
-            put("RQ", REQUEST, &values, script)
-        }
-        _ => put(kind, fields, &values, script),
+    match request_of(kind, &values) {
+        Some(request) => put("RQ", REQUEST, &request, script),
+        None => put(kind, fields, &values, script),
     }
+}
+
+/// The fields of the request that a line stands for.
+fn request_of(kind: &str, values: &[u64]) -> Option<[u64; REQUEST.len()]> {
+    let (op, flags) = match kind {
+        "map" => (OP_MAP, 0),
+        "unmap" => (OP_UNMAP, 0),
+        "map-sparse" => (OP_MAP, FLAG_SPARSE),
+        "unmap-sparse" => (OP_UNMAP, FLAG_SPARSE),
+        _ => return None,
+    };
+    let &[address, size, ref rest @ ..] = values else {
+        return None;
+    };
+    let (object, offset) = match *rest {
+        [object, offset] => (object, offset),
+        _ => (0, 0),
+    };
+    Some([op, flags, object, 0, address, offset, size])
 }
 
 /// A line `repeat N: RECORD`.

@@ -4,8 +4,9 @@
 use crate::line::{lines, Call, Line};
 use crate::manager::{contenders, lent, Bound, Contender, Grant, Looked, TREE};
 use waylluqen::{Refusal, Shown};
-use waylluqen_compare::library::{self, change_table, write_operations};
-use waylluqen_compare::near::{disturb, near_record, widen};
+use waylluqen_compare::calls::{model_answer, model_look, Asking};
+use waylluqen_compare::library::{self, change_lent, change_table, write_operations};
+use waylluqen_compare::near::{disturb, near_plain_record, widen};
 use waylluqen_compare::tables::{
     any_address, good_table, make_stale, some_operation_words, Good, Table,
 };
@@ -45,24 +46,19 @@ fn contenders_for(table: &Table) -> impl Iterator<Item = &'static Contender> {
 
 /// A request to each contender that can have the table, with words behind the list's operations.
 fn compare_bind(table: &Table, request: &model::Request, list_words: usize) -> Bound {
-    let Table {
-        space,
-        words,
-        count,
-    } = table;
-    let expected = model::bind(space, words, *count, list_words, request);
-    let mut expected_words = words.clone();
+    let expected = model_answer(table, list_words, Asking::Numbers(*request));
+    let mut expected_words = table.words.clone();
     change_table(&mut expected_words, &expected);
     let mut expected_list = vec![SEED; list_words];
     write_operations(&mut expected_list, &expected);
     let expected = answer(&expected);
-    let expected_count = expected.map_or(*count, |grant| grant.count);
+    let expected_count = expected.map_or(table.count, |grant| grant.count);
     for contender in contenders_for(table) {
         let name = contender.name;
-        let mut manager = (contender.begin)(words, *count);
+        let mut manager = (contender.begin)(table);
         let mut list = vec![SEED; list_words];
         let given = library::request(request);
-        let answer = manager.bind(library::space(space), given, &mut list);
+        let answer = manager.bind(library::space(&table.space), given, &mut list);
         assert_eq!(answer, expected, "{name}, {request:x?}");
         let (words, count) = manager.table();
         assert!(words == expected_words, "{name}'s table, {request:x?}");
@@ -73,15 +69,10 @@ fn compare_bind(table: &Table, request: &model::Request, list_words: usize) -> B
 }
 
 fn compare_lookup(table: &Table, address: u64) -> Looked {
-    let Table {
-        space,
-        words,
-        count,
-    } = table;
-    let expected = library::looked(model::lookup(space, words, *count, address));
+    let expected = library::looked(model_look(table, address));
     for contender in contenders_for(table) {
-        let mut manager = (contender.begin)(words, *count);
-        let answer = manager.lookup(library::space(space), address);
+        let mut manager = (contender.begin)(table);
+        let answer = manager.lookup(library::space(&table.space), address);
         assert_eq!(answer, expected, "{}, address {address:#x}", contender.name);
     }
     expected
@@ -108,9 +99,9 @@ fn compare_random(random: &mut Random) -> Bound {
     let largest = random.pick(&[8, 40, 40, 512, MOST_MAPPINGS as u64]);
     let good = good_table(random, largest);
     let mut table = some_table(random, &good);
-    let mut record = near_record(random, &good);
+    let mut record = near_plain_record(random, &good);
     disturb(random, &good, &mut table, &mut record);
-    let mut request = record.request();
+    let mut request = record.request().without_flags();
     if random.once_in(20) {
         widen(random, &mut request);
     }
@@ -139,18 +130,13 @@ fn compare_line(line: &Line) {
                     size: given.size,
                     object: given.object,
                     offset: given.offset,
+                    flags: given.flags,
                 };
                 let list_words = line.list().len();
                 let answer = compare_bind(&table, &request, list_words);
                 assert!(answer.is_ok(), "{}", line.name());
-                let Table {
-                    space,
-                    words,
-                    count,
-                } = &mut table;
-                let bound = model::bind(space, words, *count, list_words, &request);
-                *count = bound.as_ref().expect("is granted").count;
-                change_table(words, &bound);
+                let bound = model_answer(&table, list_words, Asking::Numbers(request));
+                change_lent(&mut table, &bound);
             }
         }
     }
@@ -164,16 +150,18 @@ pub fn assert_equal() {
         compare_line(&line);
     }
     let mut random = Random::new(SEED);
-    let (mut granted, mut stale) = (0, 0);
+    let (mut granted, mut stale, mut bad_ranges) = (0, 0, 0);
     for _ in 0..RANDOM_TABLES {
         match compare_random(&mut random) {
             Ok(_) => granted += 1,
             Err(Refusal::StaleWords) => stale += 1,
+            Err(Refusal::BadRanges) => bad_ranges += 1,
             Err(_) => {}
         }
     }
     assert!(granted >= RANDOM_TABLES / 3, "only {granted} granted");
     assert!(stale >= RANDOM_TABLES / 20, "only {stale} stale");
+    assert!(bad_ranges >= RANDOM_TABLES / 50, "only {bad_ranges} lists");
 }
 
 #[test]

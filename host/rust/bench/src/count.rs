@@ -29,7 +29,7 @@ pub fn make_counted_calls(contenders: &[&Contender], lines: &[Line]) {
     for line in lines {
         let mut list = line.list();
         for contender in contenders {
-            let mut manager = (contender.begin)(&line.table.words, line.table.count);
+            let mut manager = (contender.begin)(&line.table);
             // Once before, so that what is done at first only is not counted.
             make_calls(&mut *manager, line, &mut list);
             counted_calls(&mut *manager, line, &mut list);

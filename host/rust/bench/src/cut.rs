@@ -30,6 +30,7 @@ pub fn new_mapping(request: &Request) -> Option<Mapping> {
         size,
         object,
         offset,
+        ..
     } = request;
     (op == Request::MAP).then_some([address, size, object, offset])
 }

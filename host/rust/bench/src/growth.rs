@@ -160,9 +160,11 @@ pub fn draw(panels: &[Panel]) -> String {
     svg.file((width, height), TITLE, &about(panels))
 }
 
-/// The figures of the tables. Those of the same calls stand beside one another, the smallest first.
+/// The figures of the tables. Those of the same calls stand beside one another, the smallest first;
+/// the last ones, of one size alone, do not grow.
 pub fn panels(lines: &[Line], times: &[Times]) -> Vec<Panel> {
-    let of_calls = lines.chunks(SIZES.len()).zip(times.chunks(SIZES.len()));
+    let lines = lines.chunks_exact(SIZES.len());
+    let of_calls = lines.zip(times.chunks_exact(SIZES.len()));
     let panel = |(lines, times): (&[Line], &[Times])| {
         let median = |size: usize, contender| times[size].of_call(contender).median;
         Panel {

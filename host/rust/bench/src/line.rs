@@ -2,9 +2,10 @@
 
 use waylluqen::{operation_list_words, Request, MAPPING_WORDS};
 use waylluqen_compare::library;
+use waylluqen_compare::lists::List;
 use waylluqen_compare::tables::Table;
 use waylluqen_model::random::Random;
-use waylluqen_model::{Space, PAGE};
+use waylluqen_model::{Space, SparseRange, MOST_RANGES, PAGE};
 
 /// The room of the tables that are timed.
 pub const SIZES: [usize; 6] = [16, 64, 256, 512, 1024, 4096];
@@ -89,6 +90,7 @@ fn table(space: Space, mappings: &[[u64; MAPPING_WORDS]], room: usize) -> Table 
     words.resize(room * MAPPING_WORDS, 0);
     Table {
         space,
+        list: List::default(),
         words,
         count: mappings.len() as u64,
     }
@@ -157,12 +159,38 @@ fn lines_of(room: usize) -> [Line; 8] {
     ]
 }
 
+/// Two lines with a full list of ranges beside as many mappings: a map over one, and look-ups by
+/// turns in mappings and in ranges. The ranges are behind the mappings, at every other page.
+fn beside_ranges() -> [Line; 2] {
+    let room = MOST_RANGES;
+    let [mut over, ..] = lines_of(room);
+    let mut looks = look_up("look-up, 64 ranges", room, room);
+    over.what = "map over one, 64 ranges";
+    let end = over.table.space.start + over.table.space.size;
+    let start = |place: usize| end + 2 * place as u64 * PAGE;
+    let range = |place: usize| SparseRange {
+        start: start(place),
+        size: PAGE,
+    };
+    let ranges: Vec<SparseRange> = (0..room).map(range).collect();
+    for (place, call) in looks.calls.iter_mut().enumerate().step_by(2) {
+        *call = Call::Lookup(start(place) + 8);
+    }
+    [over, looks].map(|mut line| {
+        line.table.space.size += 2 * room as u64 * PAGE;
+        line.table.list = List::of(&ranges, room);
+        Line::new(line.what, room, line.table, line.calls)
+    })
+}
+
+/// Those of one size alone stand last.
 pub fn lines() -> Vec<Line> {
     let of_size = SIZES.map(lines_of);
     let mut lines: Vec<Line> = of_size.into_iter().flatten().collect();
     // Those of the same calls beside one another; the sort keeps the order of the sizes.
     let order = lines_of(SIZES[0]).map(|line| line.what);
     lines.sort_by_key(|line| order.iter().position(|&what| what == line.what));
+    lines.extend(beside_ranges());
     lines
 }
 

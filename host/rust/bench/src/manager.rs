@@ -2,7 +2,8 @@
 
 use crate::plain::{Checked, Folded, Joined, Masked, Merged, Plain};
 use crate::tree::Tree;
-use waylluqen::{Refusal, Request, Seen, Shown, Space, Table};
+use waylluqen::{Ranges, Refusal, Request, Seen, Shown, Space};
+use waylluqen_compare::tables::Table;
 
 /// What a granted request answers.
 #[derive(Clone, Copy, Debug, PartialEq, Eq)]
@@ -18,14 +19,15 @@ pub type Looked = Result<Seen, Refusal>;
 fn numbers_taken(looked: Looked) -> u64 {
     match looked {
         Ok(Seen { shown, bytes }) => match shown {
-            Shown::Nothing => bytes,
+            Shown::Nothing | Shown::Sparse => bytes,
             Shown::Object { object, offset } => object ^ offset ^ bytes,
         },
         Err(refusal) => refusal.number().into(),
     }
 }
 
-/// Keeps the mappings of a space, and checks them at each call.
+/// Keeps the mappings of a space beside a list of sparse ranges, and checks both at each call. It is
+/// asked without the flag alone, so that the list stays.
 pub trait Manager {
     fn bind(&mut self, space: Space, request: Request, list: &mut [u64]) -> Bound;
     fn lookup(&mut self, space: Space, address: u64) -> Looked;
@@ -42,16 +44,15 @@ pub trait Manager {
 
 pub struct Contender {
     pub name: &'static str,
-    /// A manager of the table in these words, of so many mappings.
-    pub begin: fn(&[u64], u64) -> Box<dyn Manager>,
+    /// A manager of the mappings and the list of a table.
+    pub begin: fn(&Table) -> Box<dyn Manager>,
 }
 
 pub const LIBRARY: Contender = Contender {
     name: "library",
-    begin: |words, count| {
+    begin: |table| {
         Box::new(Library {
-            words: words.to_vec(),
-            count,
+            table: table.clone(),
         })
     },
 };
@@ -59,30 +60,30 @@ pub const LIBRARY: Contender = Contender {
 pub const PLAIN: [Contender; 5] = [
     Contender {
         name: "checked",
-        begin: |words, count| Box::new(Plain::<Checked>::new(words, count)),
+        begin: |table| Box::new(Plain::<Checked>::new(table)),
     },
     Contender {
         name: "masked",
-        begin: |words, count| Box::new(Plain::<Masked>::new(words, count)),
+        begin: |table| Box::new(Plain::<Masked>::new(table)),
     },
     Contender {
         name: "merged",
-        begin: |words, count| Box::new(Plain::<Merged>::new(words, count)),
+        begin: |table| Box::new(Plain::<Merged>::new(table)),
     },
     Contender {
         name: "folded",
-        begin: |words, count| Box::new(Plain::<Folded>::new(words, count)),
+        begin: |table| Box::new(Plain::<Folded>::new(table)),
     },
     Contender {
         name: "joined",
-        begin: |words, count| Box::new(Plain::<Joined>::new(words, count)),
+        begin: |table| Box::new(Plain::<Joined>::new(table)),
     },
 ];
 
 /// Its mappings are in a map of the standard library, not in lent words.
 pub const TREE: Contender = Contender {
     name: "BTreeMap",
-    begin: |words, count| Box::new(Tree::new(words, count)),
+    begin: |table| Box::new(Tree::new(table)),
 };
 
 /// Those whose mappings are in lent words, which can be any.
@@ -103,26 +104,38 @@ pub fn lowest_plain(number: impl Fn(usize) -> f64) -> usize {
 }
 
 struct Library {
-    words: Vec<u64>,
-    count: u64,
+    table: Table,
+}
+
+impl Library {
+    /// What is lent to a call. A list of no word is the one that a table has by itself.
+    #[inline]
+    fn lent(&mut self) -> waylluqen::Table<'_> {
+        let Table {
+            words, count, list, ..
+        } = &mut self.table;
+        let lent = waylluqen::Table::with_count(words, *count);
+        match list.is_none() {
+            true => lent,
+            false => lent.with_ranges(Ranges::with_count(&mut list.words, list.count)),
+        }
+    }
 }
 
 impl Manager for Library {
     fn bind(&mut self, space: Space, request: Request, list: &mut [u64]) -> Bound {
-        let mut table = Table::with_count(&mut self.words, self.count);
+        let mut table = self.lent();
         let operations = table.bind(space, request, list)?.len() as u64;
-        self.count = table.count();
-        Ok(Grant {
-            operations,
-            count: self.count,
-        })
+        let count = table.count();
+        self.table.count = count;
+        Ok(Grant { operations, count })
     }
 
     fn lookup(&mut self, space: Space, address: u64) -> Looked {
-        Table::with_count(&mut self.words, self.count).lookup(space, address)
+        self.lent().lookup(space, address)
     }
 
     fn table(&self) -> (Vec<u64>, u64) {
-        (self.words.clone(), self.count)
+        (self.table.words.clone(), self.table.count)
     }
 }

@@ -3,13 +3,14 @@
 
 use crate::cut::{cut, lower_rest, map_operation, new_mapping, upper_rest};
 use crate::manager::{Bound, Grant, Looked, Manager};
-use crate::rules::{bad_mapping, bounds, capacity, check_list, check_request};
+use crate::rules::{bad_mapping, bounds, capacity, check_list, check_ranges, check_request};
 use crate::rules::{checked_end, masked_end, Bounds, Mapping};
 use crate::seen::{seen_in, seen_off};
 use std::marker::PhantomData;
 use std::ops::Range;
 use waylluqen::{Refusal, Request, Space, LIMIT, MAPPING_WORDS, MAX_OBJECT};
 use waylluqen::{OPERATION_WORDS, PAGE_SIZE};
+use waylluqen_compare::tables::Table;
 
 /// The places of mappings in a table, or why it is refused.
 type Places = Result<Range<usize>, Refusal>;
@@ -212,18 +213,16 @@ fn clear(places: &mut [Mapping]) {
     }
 }
 
-/// A table in lent words.
+/// A table in lent words, with a list in others.
 pub struct Plain<W> {
-    words: Vec<u64>,
-    count: u64,
+    table: Table,
     way: PhantomData<W>,
 }
 
 impl<W> Plain<W> {
-    pub fn new(words: &[u64], count: u64) -> Plain<W> {
+    pub fn new(table: &Table) -> Plain<W> {
         Plain {
-            words: words.to_vec(),
-            count,
+            table: table.clone(),
             way: PhantomData,
         }
     }
@@ -236,25 +235,20 @@ fn counted(count: u64, capacity: usize) -> Result<usize, Refusal> {
         .ok_or(Refusal::BadCount)
 }
 
-fn bind<W: Way>(
-    space: Space,
-    words: &mut [u64],
-    count: u64,
-    list: &mut [u64],
-    request: &Request,
-) -> Bound {
+fn bind<W: Way>(space: Space, lent: &mut Table, list: &mut [u64], request: &Request) -> Bound {
     if request.op > Request::UNMAP {
         return Err(Refusal::BadOp);
     }
     let bounds = bounds(space)?;
-    let capacity = capacity(words.len())?;
+    let capacity = capacity(lent.words.len())?;
     check_list(list, capacity)?;
-    let count = counted(count, capacity)?;
-    let table: &mut [Mapping] = words.as_chunks_mut().0;
+    let count = counted(lent.count, capacity)?;
+    let table: &mut [Mapping] = lent.words.as_chunks_mut().0;
     let last = request.address.wrapping_add(request.size).wrapping_sub(1);
     let (mappings, behind) = table.split_at(count);
     let hits = W::hits(&bounds, mappings, request.address, last)?;
     check_behind(behind)?;
+    check_ranges(&bounds, &lent.list)?;
     let end = check_request(&bounds, request)?;
     change(table, count, list, request, hits, end)
 }
@@ -300,32 +294,33 @@ fn change(
     })
 }
 
-fn lookup<W: Way>(space: Space, words: &[u64], count: u64, address: u64) -> Looked {
+fn lookup<W: Way>(space: Space, lent: &Table, address: u64) -> Looked {
     let bounds = bounds(space)?;
-    let count = counted(count, capacity(words.len())?)?;
-    let table: &[Mapping] = words.as_chunks().0;
+    let count = counted(lent.count, capacity(lent.words.len())?)?;
+    let table: &[Mapping] = lent.words.as_chunks().0;
     let (mappings, behind) = table.split_at(count);
     let hits = W::hits(&bounds, mappings, address, address)?;
     check_behind(behind)?;
+    let ranges = check_ranges(&bounds, &lent.list)?;
     Ok(match mappings.get(hits.start) {
         Some(mapping) if mapping[0] <= address => seen_in(mapping, address),
-        next => seen_off(&bounds, next.map(|next| next[0]), address),
+        next => seen_off(&bounds, ranges, next.map(|next| next[0]), address),
     })
 }
 
 impl<W: Way> Manager for Plain<W> {
     fn bind(&mut self, space: Space, request: Request, list: &mut [u64]) -> Bound {
-        let grant = bind::<W>(space, &mut self.words, self.count, list, &request)?;
-        self.count = grant.count;
+        let grant = bind::<W>(space, &mut self.table, list, &request)?;
+        self.table.count = grant.count;
         Ok(grant)
     }
 
     fn lookup(&mut self, space: Space, address: u64) -> Looked {
-        lookup::<W>(space, &self.words, self.count, address)
+        lookup::<W>(space, &self.table, address)
     }
 
     fn table(&self) -> (Vec<u64>, u64) {
-        (self.words.clone(), self.count)
+        (self.table.words.clone(), self.table.count)
     }
 }
 

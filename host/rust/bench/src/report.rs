@@ -64,9 +64,10 @@ fn is_full(line: &Line) -> bool {
 }
 
 /// The highest ratio of the full tables, which we hold ourselves to, or of the others, with its
-/// line.
+/// line. Those with sparse ranges stand for themselves.
 fn highest(lines: &[Line], ratios: &[f64], full: bool) -> (f64, String) {
     let held = lines.iter().zip(ratios);
+    let held = held.filter(|(line, _)| line.table.list.is_none());
     let held = held.filter(|(line, _)| line.room >= HELD_FROM && is_full(line) == full);
     let highest = held.max_by(|(_, one), (_, other)| one.total_cmp(other));
     let (line, ratio) = highest.expect("there are such lines");
@@ -212,6 +213,7 @@ mod tests {
             match line.room {
                 // Not among those that we hold ourselves to.
                 16 => 9.0,
+                _ if !line.table.list.is_none() => 9.0,
                 _ if line.name() == name => ratio,
                 _ => ratio - 0.001,
             }

@@ -1,10 +1,15 @@
-//! The rules of a space, a table and a request in plain safe Rust, for 64-bit numbers of any value.
+//! The rules of a space, a table, a list of sparse ranges and a request in plain safe Rust, for
+//! 64-bit numbers of any value.
 
-use waylluqen::{Refusal, Request, Space, LIMIT, MAX_MAPPINGS, MAX_OBJECT};
-use waylluqen::{MAPPING_WORDS, OPERATION_WORDS, PAGE_SIZE};
+use waylluqen::{Refusal, Request, Space, LIMIT, MAX_MAPPINGS, MAX_OBJECT, MAX_RANGES};
+use waylluqen::{MAPPING_WORDS, OPERATION_WORDS, PAGE_SIZE, RANGE_WORDS};
+use waylluqen_compare::lists::List;
 
 /// Address, size, object, offset.
 pub type Mapping = [u64; MAPPING_WORDS];
+
+/// Start and size.
+pub type SparseRange = [u64; RANGE_WORDS];
 
 /// The ends of a space that keeps its rules, and of its reservation.
 #[derive(Clone, Copy)]
@@ -54,6 +59,35 @@ pub fn check_list(list: &[u64], capacity: usize) -> Result<(), Refusal> {
     Ok(())
 }
 
+/// Checks a list, and gives its ranges. Without one there is nothing to look at.
+pub fn check_ranges<'a>(bounds: &Bounds, list: &'a List) -> Result<&'a [SparseRange], Refusal> {
+    keeping_ranges(bounds, list).ok_or(Refusal::BadRanges)
+}
+
+fn keeping_ranges<'a>(bounds: &Bounds, list: &'a List) -> Option<&'a [SparseRange]> {
+    let (places, rest) = list.words.as_chunks();
+    if !rest.is_empty() || places.len() > MAX_RANGES {
+        return None;
+    }
+    let count = usize::try_from(list.count).ok()?;
+    let (ranges, behind) = places.split_at_checked(count)?;
+    let mut floor = bounds.start;
+    for &[start, size] in ranges {
+        let end = start.checked_add(size)?;
+        let holds = (start | size).is_multiple_of(PAGE_SIZE)
+            && size != 0
+            && floor <= start
+            && end <= bounds.end
+            && (end <= bounds.reserved_start || bounds.reserved_end <= start);
+        if !holds {
+            return None;
+        }
+        floor = end;
+    }
+    let zeros_behind = behind.iter().all(|range| *range == [0; RANGE_WORDS]);
+    zeros_behind.then_some(ranges)
+}
+
 #[cold]
 pub fn bad_mapping(place: usize) -> Refusal {
     let place = place as u64;
@@ -93,7 +127,7 @@ pub fn masked_end(bounds: &Bounds, floor: u64, mapping: &Mapping) -> (bool, u64)
     (holds, end)
 }
 
-/// Checks a request whose op is a good one, and gives the end of its range.
+/// Checks a request without flags whose op is a good one, and gives the end of its range.
 pub fn check_request(bounds: &Bounds, request: &Request) -> Result<u64, Refusal> {
     let &Request {
         op,
@@ -101,6 +135,7 @@ pub fn check_request(bounds: &Bounds, request: &Request) -> Result<u64, Refusal>
         size,
         object,
         offset,
+        ..
     } = request;
     if !(address | size | offset).is_multiple_of(PAGE_SIZE) || size == 0 {
         return Err(Refusal::Unaligned);

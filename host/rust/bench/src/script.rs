@@ -7,10 +7,11 @@ use std::io;
 use std::path::Path;
 use std::process::{Command, Stdio};
 use std::time::Instant;
-use waylluqen::{operation_list_words, table_words, Space, Table, RECORD_BYTES};
+use waylluqen::{operation_list_words, range_words, table_words};
+use waylluqen::{Ranges, Space, Table, RECORD_BYTES};
 use waylluqen_compare::{library, program};
 use waylluqen_model::random::Random;
-use waylluqen_model::{self as model, write, Record, PAGE, SCRIPT_MAPPINGS};
+use waylluqen_model::{self as model, write, Record, PAGE, SCRIPT_MAPPINGS, SCRIPT_RANGES};
 
 const REQUESTS: usize = 1_000_000;
 
@@ -67,11 +68,13 @@ impl Script {
     }
 }
 
-/// Seconds that the library takes for the requests that are timed; each is granted.
+/// Seconds that the library takes for the requests that are timed; each is granted. The list has
+/// room, as the program's has.
 fn time_calls(space: Space, first: &[Record], timed: &[[u8; RECORD_BYTES]]) -> f64 {
     let mut words = [0; table_words(SCRIPT_MAPPINGS)];
+    let mut ranges = [0; range_words(SCRIPT_RANGES)];
     let mut list = [0; operation_list_words(SCRIPT_MAPPINGS)];
-    let mut table = Table::empty(&mut words);
+    let mut table = Table::empty(&mut words).with_ranges(Ranges::empty(&mut ranges));
     for record in first {
         let bound = table.bind_record(space, &record.encode(), &mut list);
         assert!(bound.is_ok(), "the table is made");

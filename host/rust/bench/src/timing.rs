@@ -83,7 +83,7 @@ struct Timed<'a> {
 
 impl<'a> Timed<'a> {
     fn new(contenders: &[&Contender], line: &'a Line) -> Timed<'a> {
-        let begin = |contender: &&Contender| (contender.begin)(&line.table.words, line.table.count);
+        let begin = |contender: &&Contender| (contender.begin)(&line.table);
         let mut timed = Timed {
             line,
             managers: contenders.iter().map(begin).collect(),

@@ -3,17 +3,21 @@
 
 use crate::cut::{cut, lower_rest, map_operation, new_mapping, upper_rest};
 use crate::manager::{Bound, Grant, Looked, Manager};
-use crate::rules::{bad_mapping, bounds, capacity, check_list, check_request, masked_end};
-use crate::rules::{Bounds, Mapping};
+use crate::rules::{bad_mapping, bounds, capacity, check_list, check_ranges, check_request};
+use crate::rules::{masked_end, Bounds, Mapping};
 use crate::seen::{seen_in, seen_off};
 use std::collections::BTreeMap;
 use waylluqen::{Refusal, Request, Space, MAPPING_WORDS, OPERATION_WORDS};
+use waylluqen_compare::lists::List;
+use waylluqen_compare::tables::Table;
 
 /// Size, object and offset by their address.
 pub struct Tree {
     mappings: BTreeMap<u64, [u64; 3]>,
     /// Of the table that it stands for.
     words: usize,
+    /// In lent words, as beside a table.
+    list: List,
 }
 
 fn mapping((&address, &[size, object, offset]): (&u64, &[u64; 3])) -> Mapping {
@@ -22,12 +26,14 @@ fn mapping((&address, &[size, object, offset]): (&u64, &[u64; 3])) -> Mapping {
 
 impl Tree {
     /// The mappings of a table whose addresses ascend.
-    pub fn new(words: &[u64], count: u64) -> Tree {
-        let (table, _) = words.as_chunks::<MAPPING_WORDS>();
+    pub fn new(table: &Table) -> Tree {
+        let (mappings, _) = table.words.as_chunks::<MAPPING_WORDS>();
+        let mappings = mappings[..table.count as usize].iter();
         let entry = |&[address, size, object, offset]: &Mapping| (address, [size, object, offset]);
         Tree {
-            mappings: table[..count as usize].iter().map(entry).collect(),
-            words: words.len(),
+            mappings: mappings.map(entry).collect(),
+            words: table.words.len(),
+            list: table.list.clone(),
         }
     }
 
@@ -101,6 +107,7 @@ impl Manager for Tree {
         let capacity = capacity(self.words)?;
         check_list(list, capacity)?;
         self.check(&bounds)?;
+        check_ranges(&bounds, &self.list)?;
         let end = check_request(&bounds, &request)?;
         self.change(capacity, list, &request, end)
     }
@@ -109,13 +116,14 @@ impl Manager for Tree {
         let bounds = bounds(space)?;
         capacity(self.words)?;
         self.check(&bounds)?;
+        let ranges = check_ranges(&bounds, &self.list)?;
         let below = self.at_or_below(address);
         let found = below.filter(|&[start, size, ..]| address - start < size);
         Ok(match found {
             Some(mapping) => seen_in(&mapping, address),
             None => {
                 let next = self.mappings.range(address..).next();
-                seen_off(&bounds, next.map(|(&start, _)| start), address)
+                seen_off(&bounds, ranges, next.map(|(&start, _)| start), address)
             }
         })
     }

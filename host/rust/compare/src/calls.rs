@@ -1,13 +1,15 @@
 //! Calls of the library, each compared to the model: its answer and every word lent to it.
 
 use crate::library::{self, Bound, Looked};
+use crate::lists::List;
 use crate::memory::Lent;
 use crate::tables::Table;
 use std::fmt::Debug;
-use waylluqen::{check_request, ffi, Operations};
+use waylluqen::{check_request, ffi, Operations, Ranges};
 use waylluqen_model::random::Random;
-use waylluqen_model::{bind, bind_record, Operation, Request, Space};
-use waylluqen_model::{MAPPING_WORDS, OPERATION_WORDS};
+use waylluqen_model::request::form_refusal;
+use waylluqen_model::{bind, bind_record, decode, lookup, Grant, Operation, Request, Space};
+use waylluqen_model::{MAPPING_WORDS, OPERATION_WORDS, RANGE_WORDS};
 
 /// The two ways to call the library from Rust: in words as from C, and by the types for drivers.
 #[derive(Clone, Copy, Debug, PartialEq, Eq)]
@@ -16,7 +18,7 @@ pub enum Way {
     Types,
 }
 
-/// The two forms in which a request comes.
+/// The two forms in which a request comes. Numbers with flags only the types take.
 #[derive(Clone, Copy, Debug)]
 pub enum Asking<'a> {
     Numbers(Request),
@@ -26,6 +28,7 @@ pub enum Asking<'a> {
 /// The memory that is lent, and the randomness of what lies in it.
 pub struct Caller {
     random: Random,
+    list: Lent,
     table: Lent,
     operations: Lent,
 }
@@ -34,14 +37,16 @@ impl Caller {
     pub fn new(seed: u64) -> Caller {
         Caller {
             random: Random::new(seed),
+            list: Lent::default(),
             table: Lent::default(),
             operations: Lent::default(),
         }
     }
 
-    /// Lends these words as a table to the calls that follow.
-    pub fn lend(&mut self, words: &[u64]) {
-        self.table.put(&mut self.random, words);
+    /// Lends a table's words and its list's to the calls that follow.
+    pub fn lend(&mut self, table: &Table) {
+        self.list.put(&mut self.random, &table.list.words);
+        self.table.put(&mut self.random, &table.words);
     }
 
     /// Changes a word of the table that is lent.
@@ -49,19 +54,43 @@ impl Caller {
         self.table.words_mut()[place] = word;
     }
 
+    /// Changes a word of the list that is lent.
+    pub fn set_list_word(&mut self, place: usize, word: u64) {
+        self.list.words_mut()[place] = word;
+    }
+
     /// Lends these words for the operations of the next call.
     pub fn lend_operations(&mut self, words: &[u64]) {
         self.operations.put(&mut self.random, words);
     }
 
-    /// Puts other words around the table; see [`Lent::stir`].
+    /// Puts other words around the table and the list; see [`Lent::stir`].
     pub fn stir(&mut self, address: u64) {
-        self.table.stir(&mut self.random, address);
+        self.table.stir(&mut self.random, address, MAPPING_WORDS);
+        self.list.stir(&mut self.random, address, RANGE_WORDS);
     }
 
     /// The table as the last call left it.
     pub fn table(&self) -> &[u64] {
         self.table.words()
+    }
+
+    /// The list as the last call left it.
+    pub fn list(&self) -> &[u64] {
+        self.list.words()
+    }
+
+    /// What is lent as the last call left it, which was this grant.
+    pub fn left(&self, space: Space, grant: &Grant) -> Table {
+        Table {
+            space,
+            list: List {
+                words: self.list().to_vec(),
+                count: grant.ranges.len() as u64,
+            },
+            words: self.table().to_vec(),
+            count: grant.count,
+        }
     }
 
     /// The operation words as the last call left them.
@@ -73,10 +102,11 @@ impl Caller {
     /// does.
     pub fn compare(&mut self, table: &Table, operation_words: usize, asking: Asking) -> Bound {
         let model = model_answer(table, operation_words, asking);
-        self.lend(&table.words);
+        self.lend(table);
         self.operations.put_any(&mut self.random, operation_words);
         let way = match self.random.below(8) {
             0 => Way::Types,
+            _ if asking.has_flags() => Way::Types,
             _ => Way::Words,
         };
         self.bind(way, table, asking, &model);
@@ -86,6 +116,7 @@ impl Caller {
     /// Asks on the table and with the operation words that are lent. The table has the words of
     /// `table`, and the model's answer is `model`.
     pub fn bind(&mut self, way: Way, table: &Table, asking: Asking, model: &Bound) {
+        self.list.expect(|words| library::change_list(words, model));
         self.table
             .expect(|words| library::change_table(words, model));
         self.operations
@@ -94,28 +125,34 @@ impl Caller {
             Way::Words => self.bind_words(table, asking, model),
             Way::Types => self.bind_types(table, asking, model),
         };
-        let as_expected = self.table.is_as_expected() && self.operations.is_as_expected();
+        let lent = [&mut self.list, &mut self.table, &mut self.operations];
+        let as_expected = lent.into_iter().all(Lent::is_as_expected);
         if answered.is_err() || !as_expected {
             self.report(table, asking, &answer_line(way, answered), model);
         }
     }
 
     fn bind_words(&mut self, table: &Table, asking: Asking, model: &Bound) -> Result<(), String> {
-        let (space, count) = (library::space(&table.space), table.count);
-        let (words, list) = (self.table.words_mut(), self.operations.words_mut());
+        let space = library::space(&table.space);
+        let (ranges, range_count) = (self.list.words_mut(), table.list.count);
+        let (words, count) = (self.table.words_mut(), table.count);
+        let list = self.operations.words_mut();
         let answer = match asking {
             Asking::Numbers(request) => {
-                ffi::bind(space, words, count, list, library::request(&request))
+                let request = library::numbers(&request);
+                ffi::bind(space, ranges, range_count, words, count, list, request)
             }
-            Asking::Bytes(record) => ffi::bind_record(space, words, count, list, record),
+            Asking::Bytes(record) => {
+                ffi::bind_record(space, ranges, range_count, words, count, list, record)
+            }
         };
-        same(answer, library::bound_words(model, count))
+        same(answer, library::bound_words(model, table))
     }
 
     fn bind_types(&mut self, table: &Table, asking: Asking, model: &Bound) -> Result<(), String> {
         let space = library::space(&table.space);
         let list = self.operations.words_mut();
-        let mut lent = waylluqen::Table::with_count(self.table.words_mut(), table.count);
+        let mut lent = lent_types(table, self.table.words_mut(), self.list.words_mut());
         let answer = match asking {
             Asking::Numbers(request) => lent.bind(space, library::request(&request), list),
             Asking::Bytes(record) => lent.bind_record(space, record, list),
@@ -123,12 +160,16 @@ impl Caller {
         match (answer, model) {
             (Ok(operations), Ok(grant)) => {
                 same(lent.count(), grant.count)?;
+                same(lent.ranges().count(), grant.ranges.len() as u64)?;
                 let mappings = grant.mappings.iter().copied().map(library::mapping);
                 same_items(lent.mappings(), mappings)?;
+                let ranges = grant.ranges.iter().copied().map(library::range);
+                same_items(lent.ranges().iter(), ranges)?;
                 same_operations(operations, &grant.operations)
             }
             (Err(refusal), Err(refused)) => {
                 same(lent.count(), table.count)?;
+                same(lent.ranges().count(), table.list.count)?;
                 same(refusal.number(), refused.number)?;
                 same(refusal, library::refusal(*refused))
             }
@@ -136,30 +177,30 @@ impl Caller {
         }
     }
 
-    /// Looks an address up in the table that is lent, to which the model's answer is `model`.
-    pub fn look_up(&mut self, way: Way, space: &Space, count: u64, address: u64, model: Looked) {
+    /// Looks an address up in the table that is lent, to which the model's answer is `model`. It has
+    /// the words of `table`.
+    pub fn look_up(&mut self, way: Way, table: &Table, address: u64, model: Looked) {
+        self.list.expect(|_| {});
         self.table.expect(|_| {});
-        let given = library::space(space);
+        let space = library::space(&table.space);
+        let (words, count) = (self.table.words_mut(), table.count);
+        let ranges = self.list.words_mut();
         let answered = match way {
             Way::Words => {
-                let answer = ffi::lookup(given, self.table.words(), count, address);
+                let answer = ffi::lookup(space, ranges, table.list.count, words, count, address);
                 same(answer, library::looked_words(model))
             }
             Way::Types => {
-                let lent = waylluqen::Table::with_count(self.table.words_mut(), count);
-                same(lent.lookup(given, address), library::looked(model))
+                let lent = lent_types(table, words, ranges);
+                same(lent.lookup(space, address), library::looked(model))
             }
         };
-        if answered.is_err() || !self.table.is_as_expected() {
-            let table = Table {
-                space: *space,
-                words: self.table.words().to_vec(),
-                count,
-            };
+        let lent = [&mut self.list, &mut self.table];
+        if answered.is_err() || !lent.into_iter().all(Lent::is_as_expected) {
             let answer = answer_line(way, answered);
             panic!(
                 "{}look up {address:#x}\n{answer}\nmodel {model:x?}",
-                describe(&table)
+                describe(table)
             );
         }
     }
@@ -167,13 +208,48 @@ impl Caller {
     #[cold]
     fn report(&self, table: &Table, asking: Asking, answer: &str, model: &Bound) -> ! {
         panic!(
-            "{}{asking:x?}\n{answer}\nthe table afterwards:\n{}\noperations, {} words:\n{}\n\
-             model {model:x?}",
+            "{}{asking:x?}\n{answer}\nthe list afterwards:\n{}\nthe table afterwards:\n{}\n\
+             operations, {} words:\n{}\nmodel {model:x?}",
             describe(table),
+            lines(self.list.words(), RANGE_WORDS),
             lines(self.table.words(), MAPPING_WORDS),
             self.operations.words().len(),
             lines(self.operations.words(), OPERATION_WORDS),
         );
+    }
+}
+
+impl Asking<'_> {
+    /// Whether it is one that only the types take.
+    fn has_flags(&self) -> bool {
+        matches!(self, Asking::Numbers(request) if request.flags != 0)
+    }
+
+    /// The request, if it is one whose op and flags are good.
+    pub fn request(&self) -> Option<Request> {
+        match self {
+            Asking::Numbers(request) => form_refusal(request).is_none().then_some(*request),
+            Asking::Bytes(record) => decode(record).ok(),
+        }
+    }
+
+    /// Whether it asks for a sparse range.
+    pub fn is_sparse(&self) -> bool {
+        self.request().is_some_and(|request| request.is_sparse())
+    }
+}
+
+/// The table in these words, with the list in those. A list of no word is the one that a table has
+/// by itself.
+fn lent_types<'a>(
+    table: &Table,
+    words: &'a mut [u64],
+    ranges: &'a mut [u64],
+) -> waylluqen::Table<'a> {
+    let lent = waylluqen::Table::with_count(words, table.count);
+    match table.list.is_none() {
+        true => lent,
+        false => lent.with_ranges(Ranges::with_count(ranges, table.list.count)),
     }
 }
 
@@ -193,11 +269,14 @@ pub fn check(way: Way, space: &Space, record: &[u8]) -> u32 {
     model
 }
 
-/// The space and the table of a call, in lines.
+/// The space, the list and the table of a call, in lines.
 pub fn describe(table: &Table) -> String {
     format!(
-        "{:x?}\ntable, {} words, count {}:\n{}\n",
+        "{:x?}\nlist, {} words, count {}:\n{}\ntable, {} words, count {}:\n{}\n",
         table.space,
+        table.list.words.len(),
+        table.list.count,
+        lines(&table.list.words, RANGE_WORDS),
         table.words.len(),
         table.count,
         lines(&table.words, MAPPING_WORDS)
@@ -220,15 +299,20 @@ fn answer_line(way: Way, answered: Result<(), String>) -> String {
 }
 
 pub fn model_answer(table: &Table, operation_words: usize, asking: Asking) -> Bound {
-    let Table {
-        space,
-        words,
-        count,
-    } = table;
+    let (space, list, words) = (&table.space, &table.list.lent(), &table.words);
     match asking {
-        Asking::Numbers(request) => bind(space, words, *count, operation_words, &request),
-        Asking::Bytes(record) => bind_record(space, words, *count, operation_words, record),
+        Asking::Numbers(request) => {
+            bind(space, list, words, table.count, operation_words, &request)
+        }
+        Asking::Bytes(record) => {
+            bind_record(space, list, words, table.count, operation_words, record)
+        }
     }
+}
+
+pub fn model_look(table: &Table, address: u64) -> Looked {
+    let (space, list, words) = (&table.space, &table.list.lent(), &table.words);
+    lookup(space, list, words, table.count, address)
 }
 
 /// What was answered, if it is not what was expected.

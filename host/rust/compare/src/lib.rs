@@ -5,6 +5,7 @@
 
 pub mod calls;
 pub mod library;
+pub mod lists;
 pub mod marks;
 pub mod memory;
 pub mod near;

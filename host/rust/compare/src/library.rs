@@ -1,8 +1,10 @@
 //! The model's spaces, requests and answers as the library has them.
 
+use crate::tables::Table;
 use waylluqen::{ffi, Refusal, Rests};
 use waylluqen_model::answer;
 use waylluqen_model::bind::KIND_MAP;
+use waylluqen_model::SparseRange;
 use waylluqen_model::{Grant, Mapping, Operation, Refused, Request, Seen, Shown, Space};
 
 /// The model's answers to a request and to a look-up.
@@ -10,10 +12,12 @@ pub type Bound = Result<Grant, Refused>;
 pub type Looked = Result<Seen, Refused>;
 
 /// The numbers of all refusals.
-pub const NUMBERS: [u32; 15] = [1, 2, 3, 4, 5, 6, 7, 8, 9, 10, 11, 12, 13, 14, 17];
+pub const NUMBERS: [u32; 18] = [
+    1, 2, 3, 4, 5, 6, 7, 8, 9, 10, 11, 12, 13, 14, 17, 18, 19, 20,
+];
 
 /// Room for a count of each number up to the highest, and of what is not refused.
-pub type ByNumber = [u64; 18];
+pub type ByNumber = [u64; 21];
 
 pub fn space(space: &Space) -> waylluqen::Space {
     waylluqen::Space {
@@ -31,7 +35,18 @@ pub fn request(request: &Request) -> waylluqen::Request {
         size: request.size,
         object: request.object,
         offset: request.offset,
+        flags: request.flags,
     }
+}
+
+/// A request as C has it by numbers.
+pub fn numbers(given: &Request) -> ffi::Numbers {
+    assert_eq!(given.flags, 0, "by numbers there are no flags");
+    request(given).into()
+}
+
+pub fn range(range: SparseRange) -> waylluqen::SparseRange {
+    waylluqen::SparseRange::from(range.words())
 }
 
 pub fn mapping(mapping: Mapping) -> waylluqen::Mapping {
@@ -57,6 +72,9 @@ pub fn refusal(refused: Refused) -> Refusal {
         answer::BAD_OP => Refusal::BadOp,
         answer::BAD_FLAGS => Refusal::BadFlags,
         answer::STALE_WORDS => Refusal::StaleWords,
+        answer::BAD_RANGES => Refusal::BadRanges,
+        answer::RANGE_OVERLAPS => Refusal::RangeOverlaps,
+        answer::NO_SUCH_RANGE => Refusal::NoSuchRange,
         number => unreachable!("{number} is no refusal"),
     }
 }
@@ -76,15 +94,19 @@ pub fn operation(operation: &Operation) -> waylluqen::Operation {
 fn shown(shown: Shown) -> waylluqen::Shown {
     match shown {
         Shown::Nothing => waylluqen::Shown::Nothing,
+        Shown::Sparse => waylluqen::Shown::Sparse,
         Shown::Object { object, offset } => waylluqen::Shown::Object { object, offset },
     }
 }
 
-pub fn looked(answer: Looked) -> Result<waylluqen::Seen, Refusal> {
-    let seen = |seen: Seen| waylluqen::Seen {
+pub fn seen(seen: Seen) -> waylluqen::Seen {
+    waylluqen::Seen {
         shown: shown(seen.shown),
         bytes: seen.bytes,
-    };
+    }
+}
+
+pub fn looked(answer: Looked) -> Result<waylluqen::Seen, Refusal> {
     answer.map(seen).map_err(refusal)
 }
 
@@ -96,20 +118,22 @@ pub fn checked(number: u32) -> Result<(), Refusal> {
     }
 }
 
-/// The four words in which C has this answer; `count` is the table's before.
-pub fn bound_words(bound: &Bound, count: u64) -> ffi::Answer {
+/// The five words in which C has this answer; the table, with its list, is as it was before.
+pub fn bound_words(bound: &Bound, table: &Table) -> ffi::Answer {
     match bound {
         Ok(grant) => ffi::Answer {
             refusal: 0,
             place: 0,
             operations: grant.operations.len() as u64,
             count: grant.count,
+            ranges: grant.ranges.len() as u64,
         },
         Err(refused) => ffi::Answer {
             refusal: u64::from(refused.number),
             place: refused.place,
             operations: 0,
-            count,
+            count: table.count,
+            ranges: table.list.count,
         },
     }
 }
@@ -127,9 +151,11 @@ pub fn looked_words(answer: Looked) -> ffi::Translation {
     match answer {
         Ok(Seen { shown, bytes }) => {
             words.bytes = bytes;
-            if let Shown::Object { object, offset } = shown {
-                (words.shown, words.object, words.offset) = (1, object, offset);
-            }
+            (words.shown, words.object, words.offset) = match shown {
+                Shown::Nothing => (0, 0, 0),
+                Shown::Object { object, offset } => (1, object, offset),
+                Shown::Sparse => (2, 0, 0),
+            };
         }
         Err(refused) => {
             (words.refusal, words.place) = (u64::from(refused.number), refused.place);
@@ -138,14 +164,35 @@ pub fn looked_words(answer: Looked) -> ffi::Translation {
     words
 }
 
+/// Puts these words in front, and zeros behind them.
+fn put(words: &mut [u64], new: impl Iterator<Item = u64>) {
+    let zeros = std::iter::repeat(0);
+    for (word, new) in words.iter_mut().zip(new.chain(zeros)) {
+        *word = new;
+    }
+}
+
 /// What a grant makes of a table: its mappings, and zeros behind them.
 pub fn change_table(words: &mut [u64], bound: &Bound) {
     if let Ok(grant) = bound {
-        let mappings = grant.mappings.iter().flat_map(Mapping::words);
-        let zeros = std::iter::repeat(0);
-        for (word, new) in words.iter_mut().zip(mappings.chain(zeros)) {
-            *word = new;
-        }
+        put(words, grant.mappings.iter().flat_map(Mapping::words));
+    }
+}
+
+/// What a grant makes of a list: its ranges, and zeros behind them.
+pub fn change_list(words: &mut [u64], bound: &Bound) {
+    if let Ok(grant) = bound {
+        put(words, grant.ranges.iter().flat_map(SparseRange::words));
+    }
+}
+
+/// What a grant makes of all that is lent to the next call.
+pub fn change_lent(table: &mut Table, bound: &Bound) {
+    change_table(&mut table.words, bound);
+    change_list(&mut table.list.words, bound);
+    if let Ok(grant) = bound {
+        table.count = grant.count;
+        table.list.count = grant.ranges.len() as u64;
     }
 }
 

@@ -2,7 +2,7 @@
 
 use std::hint::black_box;
 use waylluqen_model::random::Random;
-use waylluqen_model::{MAPPING_WORDS, PAGE};
+use waylluqen_model::PAGE;
 
 /// How many words on each side of the lent ones are watched.
 const BESIDE: usize = 8;
@@ -54,16 +54,16 @@ impl Lent {
         &mut self.memory[self.start..self.start + self.words]
     }
 
-    /// Other words around a table: any, zeros, or a mapping that shows the address or starts at the
-    /// page behind it.
-    pub fn stir(&mut self, random: &mut Random, address: u64) {
+    /// Other words around a table or a list: any, zeros, or a mapping or a range that has the address
+    /// or starts at the page behind it. A mapping's first two words are as a range's.
+    pub fn stir(&mut self, random: &mut Random, address: u64, each: usize) {
         let first = address / PAGE * PAGE;
         let choice = random.below(4);
         let mut other = |at: usize| match choice {
             0 => random.next_u64(),
             1 => 0,
-            2 => [first, PAGE, 9, 0][at % MAPPING_WORDS],
-            _ => [first.wrapping_add(PAGE), PAGE, 9, 0][at % MAPPING_WORDS],
+            2 => [first, PAGE, 9, 0][at % each],
+            _ => [first.wrapping_add(PAGE), PAGE, 9, 0][at % each],
         };
         let start = self.start;
         let end = start + self.words;

@@ -1,10 +1,11 @@
-//! Requests at and beside the edges of a table's mappings, and ways to disturb both.
+//! Requests at and beside the edges of a table's mappings and of its list's ranges, and ways to
+//! disturb both.
 
 use crate::numbers::{pages_in, LIMIT};
-use crate::requests::{disturb_record, MAP, UNMAP};
+use crate::requests::{disturb_record, good_record, MAP, UNMAP};
 use crate::tables::{disturb_table, free_parts, Good, Table};
 use waylluqen_model::random::Random;
-use waylluqen_model::{Mapping, Record, Request, PAGE};
+use waylluqen_model::{Mapping, Record, Request, SparseRange, PAGE};
 
 /// An end of a mapping, a page beside it, or a page of it.
 fn edge_of(random: &mut Random, mapping: &Mapping) -> u64 {
@@ -41,12 +42,17 @@ fn near_range(random: &mut Random, good: &Good, first: usize) -> (u64, u64) {
     };
     let last = mappings[(first + further).min(mappings.len() - 1)];
     let first = mappings[first];
-    let has_first = |&(start, end): &(u64, u64)| start <= first.address && first.address < end;
-    let part = free_parts(&good.space).into_iter().find(has_first);
-    let (start, end) = part.expect("a good mapping is in a free part");
-    let from = edge_of(random, &first).clamp(start, end - PAGE);
-    let to = edge_of(random, &last).clamp(from + PAGE, end);
-    (from, to - from)
+    let ends = (edge_of(random, &first), edge_of(random, &last));
+    range_in_part(good, first.address, ends)
+}
+
+/// The range from one address to another, as far as it is in the free part that has `inside`.
+fn range_in_part(good: &Good, inside: u64, (from, to): (u64, u64)) -> (u64, u64) {
+    let has_it = |&(start, end): &(u64, u64)| (start..end).contains(&inside);
+    let part = free_parts(&good.space).into_iter().find(has_it);
+    let (start, end) = part.expect("a good mapping or range is in a free part");
+    let from = from.clamp(start, end - PAGE);
+    (from, to.clamp(from + PAGE, end) - from)
 }
 
 /// What to map there: as the old mapping starts, as it goes on, the like but for one, or any. And
@@ -74,8 +80,63 @@ fn near_object(random: &mut Random, old: &Mapping, (addr, range): (u64, u64)) ->
     (handle, offset.min(highest))
 }
 
-/// A request that keeps its rules where the table does.
+/// Where to ask for a sparse range near one that there is: there, with one of its ends, beside it,
+/// into it, over it and its neighbour, or up to that one.
+fn near_sparse_range(random: &mut Random, good: &Good, ranges: &[SparseRange]) -> (u64, u64) {
+    let place = random.below(ranges.len() as u64) as usize;
+    let SparseRange { start, size } = ranges[place];
+    let next = ranges[(place + 1).min(ranges.len() - 1)];
+    let (end, pages) = (start + size, (1 + random.below(3)) * PAGE);
+    let ends = match random.below(12) {
+        0..=3 => (start, end),
+        4 => (start, end + pages),
+        5 => (start, start + PAGE),
+        6 => (start + PAGE, end),
+        7 => (start.saturating_sub(pages), start),
+        8 => (end, end + pages),
+        9 => (start.saturating_sub(PAGE), end + PAGE),
+        10 => (start, next.start + next.size),
+        _ => (end, next.start),
+    };
+    range_in_part(good, start, ends)
+}
+
+/// A request with the flag that keeps its own rules: near a sparse range that there is, or near a
+/// mapping.
+pub fn near_sparse_record(random: &mut Random, good: &Good) -> Record {
+    let ranges = good.list.ranges();
+    let (addr, range) = match ranges.is_empty() || random.once_in(4) {
+        true if good.mappings.is_empty() => {
+            let Record { addr, range, .. } = good_record(random, &good.space);
+            (addr, range)
+        }
+        true => {
+            let first = random.below(good.mappings.len() as u64) as usize;
+            near_range(random, good, first)
+        }
+        false => near_sparse_range(random, good, &ranges),
+    };
+    let is_one = ranges.contains(&SparseRange {
+        start: addr,
+        size: range,
+    });
+    let op = match is_one {
+        true => random.pick(&[MAP, UNMAP, UNMAP, UNMAP]),
+        false => random.pick(&[MAP, MAP, UNMAP]),
+    };
+    Record::sparse(op, addr, range)
+}
+
+/// A request that keeps its rules where the table does; some have the flag.
 pub fn near_record(random: &mut Random, good: &Good) -> Record {
+    match random.once_in(5) {
+        true => near_sparse_record(random, good),
+        false => near_plain_record(random, good),
+    }
+}
+
+/// One without the flag.
+pub fn near_plain_record(random: &mut Random, good: &Good) -> Record {
     let first = random.below(good.mappings.len() as u64) as usize;
     let (addr, range) = near_range(random, good, first);
     let op = random.pick(&[MAP, MAP, UNMAP]);
@@ -120,10 +181,11 @@ pub fn narrow_record(random: &mut Random, good: &Good) -> Record {
     random.pick(&[same, going_on, unmap])
 }
 
-/// Numbers that no record holds: op and object have 64 bits.
+/// Numbers that no record holds: op and object have 64 bits, and flags, if there are any.
 pub fn widen(random: &mut Random, request: &mut Request) {
     let high = 1 << (32 + random.below(32));
-    match random.below(4) {
+    match random.below(5) {
+        4 if request.flags != 0 => request.flags |= high,
         0 => request.op |= high,
         1 => request.op = random.next_u64(),
         2 => request.object |= high,

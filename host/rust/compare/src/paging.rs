@@ -4,16 +4,7 @@ use crate::library;
 use crate::tables::Table;
 use crate::walk::{moved, Walk};
 use waylluqen::{Seen, Shown};
-use waylluqen_model::table::mapping_at;
-use waylluqen_model::{replay, Grant, Mapping, Page, Pages, Request, OPERATION_WORDS, PAGE};
-
-/// The mappings in the words of a table.
-fn mappings_of(table: &Table) -> Vec<Mapping> {
-    let places = 0..table.count as usize;
-    places
-        .map(|place| mapping_at(&table.words, place))
-        .collect()
-}
+use waylluqen_model::{replay, Grant, Pages, Request, OPERATION_WORDS, PAGE};
 
 /// What each page shows and how far, by look-ups of its first and last byte.
 fn seen_by_lookup(table: &Table) -> Vec<Seen> {
@@ -30,15 +21,18 @@ fn seen_by_lookup(table: &Table) -> Vec<Seen> {
 
 /// The same as it is painted.
 fn seen_as_painted(painted: &Pages) -> Vec<Seen> {
-    let shown = |page: &Page| Shown::Object {
-        object: page.object,
-        offset: page.offset,
-    };
-    let seen = |(place, page): (usize, &Option<Page>)| Seen {
-        shown: page.as_ref().map_or(Shown::Nothing, shown),
-        bytes: painted.bytes_from(place),
-    };
-    painted.pages.iter().enumerate().map(seen).collect()
+    let seen = |page: usize| library::seen(painted.seen(page));
+    (0..painted.pages.len()).map(seen).collect()
+}
+
+/// Asserts that each page shows what is painted, and how far, by look-ups; and that table and list
+/// have the mappings and the ranges that are painted. Answers what the pages show.
+pub fn assert_painted(table: &Table, painted: &Pages) -> Vec<Seen> {
+    assert_eq!(painted.mappings(), table.good().mappings);
+    assert_eq!(painted.ranges(), table.list.ranges());
+    let seen = seen_by_lookup(table);
+    assert_eq!(seen, seen_as_painted(painted));
+    seen
 }
 
 /// Asserts for each page of an old mapping inside the range that it shows what it showed before
@@ -68,11 +62,12 @@ fn assert_mark(
 }
 
 /// Asserts that a grant did page by page what was asked: a page of a map's range shows the
-/// request's object, of an unmap's nothing, and any other shows what it showed before. And the
-/// operations at the front of `list` lead from the old mappings to the new ones, with the keep mark
-/// where pages of the range show what they showed.
+/// request's object, of an unmap's what the list says, and any other shows what it showed before;
+/// with the flag the pages of the range are sparse or no longer so, where nothing is mapped. And
+/// the operations at the front of `list` lead from the old mappings to the new ones, with the keep
+/// mark where pages of the range show what they showed.
 pub fn assert_pages(old: &Table, new: &Table, request: &Request, grant: &Grant, list: &[u64]) {
-    let (before, after) = (mappings_of(old), mappings_of(new));
+    let (before, after) = (old.good().mappings, new.good().mappings);
     let written = &list[..grant.operations.len() * OPERATION_WORDS];
     assert_eq!(replay(&before, written).as_ref(), Some(&after));
     let (read, _) = written.as_chunks();
@@ -81,13 +76,13 @@ pub fn assert_pages(old: &Table, new: &Table, request: &Request, grant: &Grant, 
     let expected = grant.operations.iter().map(library::operation);
     assert!(read.iter().copied().eq(expected));
 
-    let mut pages = Pages::new(&old.space, &before);
-    let seen_before = seen_by_lookup(old);
-    assert_eq!(seen_before, seen_as_painted(&pages));
+    let mut pages = Pages::new(&old.space, &before, &old.list.ranges());
+    let seen_before = assert_painted(old, &pages);
+    if request.is_sparse() {
+        assert_eq!(pages.refusal(request), None);
+    }
     pages.ask(request);
-    assert_eq!(pages.mappings(), after);
-    let seen_after = seen_by_lookup(new);
-    assert_eq!(seen_after, seen_as_painted(&pages));
+    let seen_after = assert_painted(new, &pages);
     let both = seen_before.iter().zip(&seen_after);
     let both: Vec<[Shown; 2]> = both.map(|(old, new)| [old.shown, new.shown]).collect();
     for operation in &read {

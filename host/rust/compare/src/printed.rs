@@ -6,9 +6,10 @@ use waylluqen_model::random::Random;
 use waylluqen_model::script;
 
 /// The lines that granted requests and answered look-ups make.
-pub const LINES: [&str; 14] = [
+pub const LINES: [&str; 16] = [
     "space",
     "granted",
+    "granted 0",
     "map",
     "remap keep 0",
     "remap keep 1",
@@ -21,10 +22,11 @@ pub const LINES: [&str; 14] = [
     "at",
     "at none",
     "at none 0",
+    "at sparse",
 ];
 
 /// Every refusal that a script can have, but for [`NO_ROOM`].
-pub const REFUSALS: [&str; 8] = [
+pub const REFUSALS: [&str; 10] = [
     "refused 1",
     "refused 6",
     "refused 7",
@@ -33,9 +35,11 @@ pub const REFUSALS: [&str; 8] = [
     "refused 10",
     "refused 13",
     "refused 14",
+    "refused 19",
+    "refused 20",
 ];
 
-/// The one that takes a full table.
+/// The one that takes a full table or a full list.
 pub const NO_ROOM: &str = "refused 11";
 
 /// The ends that a script can have: none of its own, a wrong mark, a cut mark, a cut record.
@@ -58,6 +62,8 @@ fn kind(line: &str) -> &str {
         "refused" => line,
         "at" if line.ends_with(" none 0") => "at none 0",
         "at" if line.contains(" none ") => "at none",
+        "at" if line.contains(" sparse ") => "at sparse",
+        "granted" if line.starts_with("granted 0 ") => "granted 0",
         "remap" if line.ends_with(" keep 1") => "remap keep 1",
         "remap" => "remap keep 0",
         "unmap" if line.ends_with(" keep 1") => "unmap keep 1",
@@ -66,8 +72,8 @@ fn kind(line: &str) -> &str {
     }
 }
 
-/// Whether a script can have a line of this kind. Its table is one that only requests write, and
-/// its records have their length: it is not refused for either.
+/// Whether a script can have a line of this kind. Its table and its list are ones that only requests
+/// write, and its records have their length: it is not refused for any of them.
 fn can_come(kind: &str) -> bool {
     let is_refusal = kind.starts_with("refused");
     !is_refusal || kind == NO_ROOM || REFUSALS.contains(&kind)

@@ -10,6 +10,9 @@ pub const LONGEST_RECORD: usize = 80;
 pub const MAP: u32 = waylluqen_model::MAP as u32;
 pub const UNMAP: u32 = waylluqen_model::UNMAP as u32;
 
+/// The one flag as a record has it.
+pub const SPARSE: u32 = waylluqen_model::SPARSE as u32;
+
 /// A part of the space that is not reserved; the whole space where there is none.
 fn free_part(random: &mut Random, space: &Space) -> (u64, u64) {
     let end = space.start + space.size;
@@ -27,11 +30,15 @@ fn free_part(random: &mut Random, space: &Space) -> (u64, u64) {
     free.unwrap_or((space.start, end))
 }
 
-/// The record of a request that keeps the rules in a good space, if the space has a free page.
+/// The record of a request that keeps the rules in a good space, if the space has a free page. Some
+/// have the flag.
 pub fn good_record(random: &mut Random, space: &Space) -> Record {
     let (start, end) = free_part(random, space);
     let (addr, range) = pages_in(random, start, end);
     let op = random.pick(&[MAP, UNMAP]);
+    if random.once_in(4) {
+        return Record::sparse(op, addr, range);
+    }
     let (handle, bo_offset) = if op == MAP {
         let offset = random.up_to((LIMIT - range) / PAGE) * PAGE;
         (1 + random.up_to(u64::from(u32::MAX) - 1) as u32, offset)
@@ -48,11 +55,18 @@ fn other32(random: &mut Random) -> u32 {
     random.pick(&[0, 1, 2, u32::MAX, u32::MAX - 1, bit, any])
 }
 
+/// Other flags: none, the one that there is, that one and others, or any.
+fn other_flags(random: &mut Random) -> u32 {
+    let bit = 1 << random.below(32);
+    let any = other32(random);
+    random.pick(&[0, SPARSE, SPARSE, SPARSE | bit, SPARSE << 1, bit, any])
+}
+
 /// Changes one field of the record, or two so that their sum is at an edge.
 pub fn disturb_record(random: &mut Random, record: &mut Record, space: &Space) {
     match random.below(10) {
         0 => record.op = other32(random),
-        1 => record.flags = other32(random),
+        1 => record.flags = other_flags(random),
         2 => record.pad = other32(random),
         3 => record.handle = other32(random),
         4 => record.op = random.pick(&[MAP, UNMAP]),

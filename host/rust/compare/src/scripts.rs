@@ -1,6 +1,9 @@
 //! Scripts for the comparisons: their records, and what the requests among them leave.
 
-use crate::near::{narrow_record, near_record, record_of};
+use crate::calls::{model_answer, Asking};
+use crate::library;
+use crate::lists::{some_ranges, List};
+use crate::near::{narrow_record, near_record, near_sparse_record, record_of};
 use crate::numbers::{disturb_space, edge, good_space, space_of, LIMIT};
 use crate::requests::{disturb_record, good_record, MAP, UNMAP};
 use crate::tables::{
@@ -8,14 +11,15 @@ use crate::tables::{
 };
 use waylluqen_model::bind::least_operation_words;
 use waylluqen_model::random::Random;
-use waylluqen_model::{bind_record, space_holds, write};
-use waylluqen_model::{Mapping, Record, Space, MAPPING_WORDS, PAGE, SCRIPT_MAPPINGS};
+use waylluqen_model::{space_holds, write};
+use waylluqen_model::{Record, Space, SparseRange, PAGE, SCRIPT_MAPPINGS, SCRIPT_RANGES};
 
-/// The most mappings that the program's table has room for.
+/// The most mappings that the program's table has room for, and the most ranges that its list has.
 pub const ROOM: u64 = SCRIPT_MAPPINGS as u64;
+pub const RANGE_ROOM: usize = SCRIPT_RANGES;
 
-/// A script, the places of its marks, and the space and mappings that it leaves, so that the next
-/// request can be put beside them.
+/// A script, the places of its marks, and the space, the ranges and the mappings that it leaves, so
+/// that the next request can be put beside them.
 #[derive(Clone)]
 pub struct Script {
     pub bytes: Vec<u8>,
@@ -29,10 +33,7 @@ impl Script {
         Script {
             bytes: Vec::new(),
             marks: Vec::new(),
-            good: Good {
-                space: space_of([0, 16 * PAGE, 0, 0]),
-                mappings: Vec::new(),
-            },
+            good: empty(space_of([0, 16 * PAGE, 0, 0])),
         }
     }
 
@@ -47,8 +48,21 @@ impl Script {
             let next = left.swap_remove(random.below(left.len() as u64) as usize);
             script.put(&write::request(&record_of(&next)));
         }
-        script.good = good;
+        script.good.mappings = good.mappings;
         script
+    }
+
+    /// Adds up to so many ranges near what is mapped, each by a request of its own, in any order.
+    pub fn fill_list(&mut self, random: &mut Random, most: usize) {
+        let Good {
+            space, mappings, ..
+        } = &self.good;
+        let mut left = some_ranges(random, space, mappings, most);
+        while !left.is_empty() {
+            let next = left.swap_remove(random.below(left.len() as u64) as usize);
+            let SparseRange { start, size } = next;
+            self.request(&Record::sparse(MAP, start, size));
+        }
     }
 
     fn put(&mut self, record: &[u8]) {
@@ -59,21 +73,18 @@ impl Script {
     pub fn space(&mut self, space: &Space) {
         self.put(&write::space(space));
         if space_holds(space) {
-            self.good = Good {
-                space: *space,
-                mappings: Vec::new(),
-            };
+            self.good = empty(*space);
         }
     }
 
     pub fn request(&mut self, record: &Record) {
         self.put(&write::request(record));
-        let Good { space, mappings } = &self.good;
-        let mut table: Vec<u64> = mappings.iter().flat_map(Mapping::words).collect();
-        table.resize(SCRIPT_MAPPINGS * MAPPING_WORDS, 0);
+        let mut table = self.good.table(SCRIPT_MAPPINGS - self.good.mappings.len());
         let room = least_operation_words(SCRIPT_MAPPINGS);
-        let count = mappings.len() as u64;
-        if let Ok(grant) = bind_record(space, &table, count, room, &record.encode()) {
+        let bound = model_answer(&table, room, Asking::Bytes(&record.encode()));
+        library::change_lent(&mut table, &bound);
+        if let Ok(grant) = bound {
+            self.good.list = table.list;
             self.good.mappings = grant.mappings;
         }
     }
@@ -82,7 +93,7 @@ impl Script {
         self.put(&write::lookup(address));
     }
 
-    /// Looks up at every boundary of the space and of what is mapped.
+    /// Looks up at every boundary of the space, of what is sparse and of what is mapped.
     pub fn look_up_boundaries(&mut self) {
         for address in boundaries(&self.good) {
             self.look_up(address);
@@ -135,6 +146,11 @@ impl Script {
         }
     }
 
+    /// Adds a request with the flag.
+    pub fn sparse_step(&mut self, random: &mut Random) {
+        self.request(&near_sparse_record(random, &self.good));
+    }
+
     /// Adds a request that hits one mapping or touches one.
     pub fn narrow_step(&mut self, random: &mut Random) {
         self.request(&narrow_record(random, &self.good));
@@ -151,6 +167,15 @@ impl Script {
                 self.request(&random.pick(&[map, map, unmap]));
             }
         }
+    }
+}
+
+/// A space with nothing in it, and the program's list beside it.
+fn empty(space: Space) -> Good {
+    Good {
+        space,
+        list: List::of(&[], SCRIPT_RANGES),
+        mappings: Vec::new(),
     }
 }
 

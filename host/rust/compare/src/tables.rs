@@ -1,12 +1,15 @@
-//! Tables for the comparisons: good ones, ways to damage them, and the addresses in them.
+//! Tables for the comparisons: good ones, ways to damage them, and the addresses in them. Each has
+//! a list of sparse ranges beside it.
 
+use crate::lists::{self, good_list, List};
 use crate::numbers::{
     disturb_space, edge, good_space, other64, size_to_edge, space_of, DELTAS, LIMIT,
 };
 use waylluqen_model::bind::least_operation_words;
 use waylluqen_model::random::Random;
-use waylluqen_model::{Mapping, Space, HIGHEST_OBJECT, MAPPING_WORDS, MOST_MAPPINGS};
-use waylluqen_model::{OPERATION_WORDS, PAGE};
+use waylluqen_model::table::mapping_at;
+use waylluqen_model::{space_holds, Mapping, Space, SparseRange};
+use waylluqen_model::{HIGHEST_OBJECT, MAPPING_WORDS, MOST_MAPPINGS, OPERATION_WORDS, PAGE};
 
 /// Many, but quick to compare: only some of the tables are larger.
 pub const MANY_MAPPINGS: usize = 512;
@@ -23,10 +26,11 @@ pub fn some_most(random: &mut Random, times: u64) -> usize {
     }
 }
 
-/// A space and a table for it: any numbers and any words.
+/// A space, and a list and a table for it: any numbers and any words.
 #[derive(Clone)]
 pub struct Table {
     pub space: Space,
+    pub list: List,
     pub words: Vec<u64>,
     pub count: u64,
 }
@@ -39,6 +43,16 @@ impl Table {
         &mut self.words[used as usize..]
     }
 
+    /// The space, the list and the mappings of a table that keeps its rules.
+    pub fn good(&self) -> Good {
+        let places = 0..self.count as usize;
+        Good {
+            space: self.space,
+            list: self.list.clone(),
+            mappings: places.map(|place| mapping_at(&self.words, place)).collect(),
+        }
+    }
+
     /// Another count, mostly with zeros behind so many mappings; else what was there is stale.
     pub fn recount(&mut self, random: &mut Random, count: u64) {
         self.count = count;
@@ -48,10 +62,11 @@ impl Table {
     }
 }
 
-/// A space that keeps its rules, and mappings in it that keep theirs.
+/// A space that keeps its rules, and a list of sparse ranges and mappings in it that keep theirs.
 #[derive(Clone)]
 pub struct Good {
     pub space: Space,
+    pub list: List,
     pub mappings: Vec<Mapping>,
 }
 
@@ -67,6 +82,7 @@ impl Good {
     pub fn table(&self, spare: usize) -> Table {
         Table {
             space: self.space,
+            list: self.list.clone(),
             words: self.words(spare),
             count: self.mappings.len() as u64,
         }
@@ -144,7 +160,12 @@ pub fn fill_space(random: &mut Random, space: Space, most: u64) -> Good {
     fill(random, below, lower, &mut mappings);
     let upper = most - mappings.len() as u64;
     fill(random, above, upper, &mut mappings);
-    Good { space, mappings }
+    let list = good_list(random, &space, &mappings);
+    Good {
+        space,
+        list,
+        mappings,
+    }
 }
 
 /// A space that is filled up to so many mappings.
@@ -167,7 +188,7 @@ pub fn good_table(random: &mut Random, largest: u64) -> Good {
 }
 
 /// So many mappings that touch and go on with the same bytes, as if they were one; with gaps in
-/// front of the first and behind the last.
+/// front of the first and behind the last, and without a sparse range.
 pub fn cut_up(mappings: u64, pages_each: u64) -> Good {
     let (start, size) = (64 * PAGE, pages_each * PAGE);
     let mapping = |place: u64| Mapping {
@@ -178,6 +199,7 @@ pub fn cut_up(mappings: u64, pages_each: u64) -> Good {
     };
     Good {
         space: space_of([PAGE, 2 * start + mappings * size, 2 * PAGE, PAGE]),
+        list: List::default(),
         mappings: (0..mappings).map(mapping).collect(),
     }
 }
@@ -401,10 +423,10 @@ pub fn some_operation_words(random: &mut Random, table_words: usize) -> usize {
 }
 
 /// Changes something about the table: one of its words or mappings, the words behind them, the
-/// space, the length, the count.
+/// space, the length, the count; or about the list beside it.
 pub fn disturb_table(random: &mut Random, good: &Good, table: &mut Table) {
     let mappings = good.mappings.len();
-    match random.below(9) {
+    match random.below(12) {
         0..=2 if table.words.len() >= mappings * MAPPING_WORDS => {
             damage(random, good, &mut table.words);
         }
@@ -421,6 +443,7 @@ pub fn disturb_table(random: &mut Random, good: &Good, table: &mut Table) {
             table.words.resize(length, 0);
         }
         6 => make_stale(random, table),
+        7..=9 => lists::damage(random, &good.space, &mut table.list),
         _ => {
             let count = other_count(random, mappings as u64, table.words.len() as u64);
             table.recount(random, count);
@@ -429,7 +452,7 @@ pub fn disturb_table(random: &mut Random, good: &Good, table: &mut Table) {
 }
 
 /// Any space, and words of which many are multiples of a page or at an edge; mostly with zeros
-/// behind as many mappings as are counted.
+/// behind as many mappings as are counted. Mostly with a good list, if the space is good.
 pub fn any_table(random: &mut Random) -> Table {
     let space = match random.below(8) {
         0 => space_of([0; 4].map(|_| random.next_u64())),
@@ -454,11 +477,30 @@ pub fn any_table(random: &mut Random) -> Table {
     let count = other_count(random, 1, length as u64);
     let mut table = Table {
         space,
+        list: any_list(random, &space),
         words,
         count,
     };
     table.recount(random, count);
     table
+}
+
+/// None or a good one, and now and then one that is damaged or of any words.
+fn any_list(random: &mut Random, space: &Space) -> List {
+    let mut list = match space_holds(space) {
+        true => good_list(random, space, &[]),
+        false => List::default(),
+    };
+    match random.below(8) {
+        0 => lists::damage(random, space, &mut list),
+        1 => {
+            let length = random.below(9) as usize;
+            list.words.resize_with(length, || random.below(64) * PAGE);
+            list.count = random.below(4);
+        }
+        _ => {}
+    }
+    list
 }
 
 /// The bytes at both ends of `[start, start + size)`, and those beside them; any numbers.
@@ -469,7 +511,7 @@ fn ends(start: u64, size: u64) -> [u64; 6] {
     [a, b, c, d, e, f]
 }
 
-/// Every boundary: of the numbers, the space, the reservation, and each mapping.
+/// Every boundary: of the numbers, the space, the reservation, each range, and each mapping.
 pub fn boundaries(good: &Good) -> Vec<u64> {
     let space = &good.space;
     let mut all = vec![0, 1, LIMIT - 1, LIMIT, u64::MAX - 1, u64::MAX];
@@ -479,13 +521,32 @@ pub fn boundaries(good: &Good) -> Vec<u64> {
         all.extend(ends(mapping.address, mapping.size));
         all.push(mapping.address + mapping.size / 2);
     }
+    all.extend(range_boundaries(&good.list));
     all.sort_unstable();
     all.dedup();
     all
 }
 
-/// An address at or near a boundary, in a mapping, in a gap, or any.
+/// Every boundary of each range of a good list, and its middle.
+pub fn range_boundaries(list: &List) -> Vec<u64> {
+    let mut all = Vec::new();
+    for SparseRange { start, size } in list.ranges() {
+        all.extend(ends(start, size));
+        all.push(start + size / 2);
+    }
+    all
+}
+
+/// An address at or near a boundary, in a mapping, in a range, in a gap, or any.
 pub fn any_address(random: &mut Random, good: &Good) -> u64 {
+    let ranges = good.list.ranges();
+    if !ranges.is_empty() && random.once_in(3) {
+        let SparseRange { start, size } = random.pick(&ranges);
+        return match random.below(4) {
+            0 => start + random.below(size),
+            _ => random.pick(&ends(start, size)),
+        };
+    }
     let mapping = match random.below(4) {
         0 => good.mappings[0],
         1 => good.mappings[good.mappings.len() - 1],

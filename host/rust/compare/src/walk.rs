@@ -2,16 +2,16 @@
 
 use crate::library;
 use crate::tables::Table;
-use waylluqen::{Mapping, Run, Seen, Shown, View};
+use waylluqen::{Mapping, Run, Seen, Shown, SparseRange, View};
 
 /// What is seen `bytes` behind an address of which this is seen, as far as that goes on.
 pub fn moved(seen: Seen, bytes: u64) -> Seen {
     let shown = match seen.shown {
-        Shown::Nothing => Shown::Nothing,
         Shown::Object { object, offset } => Shown::Object {
             object,
             offset: offset + bytes,
         },
+        other => other,
     };
     Seen {
         shown,
@@ -22,7 +22,7 @@ pub fn moved(seen: Seen, bytes: u64) -> Seen {
 /// The mapping that a run is, if it is the whole of one.
 fn mapping(run: &Run) -> Option<Mapping> {
     match run.shown {
-        Shown::Nothing => None,
+        Shown::Nothing | Shown::Sparse => None,
         Shown::Object { object, offset } => {
             Some(Mapping::from([run.address, run.bytes, object, offset]))
         }
@@ -31,12 +31,25 @@ fn mapping(run: &Run) -> Option<Mapping> {
 
 /// The place of the mapping that has the address, if one has it.
 fn owner(view: View, address: u64) -> Option<usize> {
-    let has = |Mapping {
-                   address: start,
-                   size,
-                   ..
-               }| (start..start + size).contains(&address);
+    let has = |mapping: Mapping| {
+        let (start, end) = (mapping.address, mapping.address + mapping.size);
+        (start..end).contains(&address)
+    };
     view.mappings().position(has)
+}
+
+/// The place of the sparse range that has the address, if one has it.
+fn range_of(view: View, address: u64) -> Option<usize> {
+    let has = |range: SparseRange| (range.start..range.start + range.size).contains(&address);
+    view.ranges().position(has)
+}
+
+/// What tells an address from its neighbour: its mapping, and only where it has none its range.
+fn look(view: View, address: u64) -> (Option<usize>, Option<usize>) {
+    match owner(view, address) {
+        Some(owner) => (Some(owner), None),
+        None => (None, range_of(view, address)),
+    }
 }
 
 /// The library's look-ups in a good table.
@@ -50,7 +63,8 @@ impl<'a> Walk<'a> {
     pub fn new(table: &'a Table) -> Walk<'a> {
         Walk {
             table,
-            view: View::new(&table.words, table.count),
+            view: View::new(&table.words, table.count)
+                .with_ranges(&table.list.words, table.list.count),
             end: table.space.start + table.space.size,
         }
     }
@@ -80,12 +94,21 @@ impl<'a> Walk<'a> {
     }
 
     /// Asserts that the runs are the table's mappings, whole, in their order and each once, with
-    /// at most one run of nothing before each and behind the last.
+    /// at most one run of another kind before each and behind the last, and one more for each edge
+    /// of a range; and that of the others those are sparse that a range has.
     pub fn assert_mappings(&self, runs: &[Run]) {
         let mappings = runs.iter().filter_map(mapping);
         assert!(mappings.eq(self.view.mappings()), "the runs {runs:x?}");
-        let most = 2 * self.view.count() + 1;
+        let most = 2 * self.view.count() + 1 + 2 * self.table.list.count;
         assert!(runs.len() as u64 <= most, "{} look-ups", runs.len());
+        for run in runs.iter().filter(|run| mapping(run).is_none()) {
+            let range = range_of(self.view, run.address);
+            let shown = match range {
+                Some(_) => Shown::Sparse,
+                None => Shown::Nothing,
+            };
+            assert_eq!(run.shown, shown, "{run:x?}");
+        }
     }
 
     /// Asserts that the byte so far behind a run's first shows what follows, as far as the run goes
@@ -105,7 +128,7 @@ impl<'a> Walk<'a> {
     }
 
     /// Asserts that the first byte behind a run is the space's end, or that its mapping is another
-    /// one, or is none.
+    /// one, or is none; and of what no mapping has, its range.
     pub fn assert_end(&self, run: &Run) {
         let behind = run.address + run.bytes;
         if behind == self.end {
@@ -115,8 +138,8 @@ impl<'a> Walk<'a> {
             };
             assert_eq!(self.look_up(behind), outside);
         } else {
-            let owners = [run.address, behind].map(|address| owner(self.view, address));
-            assert_ne!(owners[0], owners[1], "{run:x?} goes on");
+            let looks = [run.address, behind].map(|address| look(self.view, address));
+            assert_ne!(looks[0], looks[1], "{run:x?} goes on");
         }
     }
 }

@@ -2,6 +2,7 @@
 
 use waylluqen_compare::calls::{Asking, Caller};
 use waylluqen_compare::library::{Bound, ByNumber, NUMBERS};
+use waylluqen_compare::lists::{good_list, Faults, List};
 use waylluqen_compare::marks::Marks;
 use waylluqen_compare::near::{disturb, near_record, widen};
 use waylluqen_compare::numbers::{space_of, LIMIT};
@@ -13,10 +14,8 @@ use waylluqen_compare::tables::{
 };
 use waylluqen_model::bind::{least_operation_words, KIND_MAP};
 use waylluqen_model::random::Random;
-use waylluqen_model::{
-    space_holds, Grant, Mapping, Operation, Record, Request, Space, MAP, MAPPING_WORDS,
-    MOST_MAPPINGS, PAGE, UNMAP,
-};
+use waylluqen_model::{space_holds, Grant, Mapping, Operation, Record, Request, Space};
+use waylluqen_model::{MAP, MAPPING_WORDS, MOST_MAPPINGS, PAGE, RANGE_WORDS, SPARSE, UNMAP};
 
 /// Compares, and counts how often each answer and each kind of cut came.
 struct Tally {
@@ -25,6 +24,8 @@ struct Tally {
     /// Grants of maps and of unmaps.
     granted: [u64; 2],
     refused: ByNumber,
+    /// Of them those with the flag.
+    refused_flagged: ByNumber,
     /// Grants that hit no mapping, one, two, more.
     hits: [u64; 4],
     /// Remaps with a lower rest alone, an upper rest alone, both.
@@ -32,6 +33,12 @@ struct Tally {
     /// Requests that leave a lower rest of one mapping and an upper rest of another.
     both_ends: u64,
     marks: Marks,
+    /// Grants that add a sparse range, and that remove one.
+    flagged: [u64; 2],
+    /// Granted requests beside lists of no word, of no range, of some, and full ones.
+    lists: [u64; 4],
+    /// Lists that were refused.
+    faults: Faults,
     /// Maps that a full table has room for only because they free some.
     freed: u64,
     /// Grants on full tables of as many mappings as there may be.
@@ -61,6 +68,16 @@ fn reserved_part(space: &Space) -> usize {
     }
 }
 
+/// Of no word, of no range, of some, or full: the place in `Tally::lists`.
+fn list_kind(list: &List) -> usize {
+    match (list.words.len(), list.count) {
+        (0, _) => 0,
+        (_, 0) => 1,
+        (words, count) if words as u64 > count * RANGE_WORDS as u64 => 2,
+        _ => 3,
+    }
+}
+
 impl Tally {
     fn new(seed: u64) -> Tally {
         Tally {
@@ -68,10 +85,14 @@ impl Tally {
             calls: 0,
             granted: [0; 2],
             refused: ByNumber::default(),
+            refused_flagged: ByNumber::default(),
             hits: [0; 4],
             rests: [0; 3],
             both_ends: 0,
             marks: Marks::default(),
+            flagged: [0; 2],
+            lists: [0; 4],
+            faults: Faults::default(),
             freed: 0,
             on_most: 0,
             reserved: [0; 5],
@@ -86,9 +107,17 @@ impl Tally {
         }
         match &answer {
             Ok(grant) => self.note_grant(table, grant),
-            Err(refused) => self.refused[refused.number as usize] += 1,
+            Err(refused) => self.note_refusal(table, asking, refused.number),
         }
         answer
+    }
+
+    fn note_refusal(&mut self, table: &Table, asking: Asking, number: u32) {
+        self.refused[number as usize] += 1;
+        self.refused_flagged[number as usize] += u64::from(asking.is_sparse());
+        if number == 18 {
+            self.faults.count(&table.space, &table.list);
+        }
     }
 
     /// The same where there are operation words enough.
@@ -98,6 +127,12 @@ impl Tally {
     }
 
     fn note_grant(&mut self, table: &Table, grant: &Grant) {
+        self.lists[list_kind(&table.list)] += 1;
+        let ranges = grant.ranges.len() as u64;
+        if ranges != table.list.count {
+            self.flagged[usize::from(ranges < table.list.count)] += 1;
+            return;
+        }
         let is_map = |operation: &Operation| operation.kind == KIND_MAP;
         let maps = grant.operations.last().is_some_and(is_map);
         let cuts = &grant.operations[..grant.operations.len() - usize::from(maps)];
@@ -120,22 +155,38 @@ impl Tally {
         self.marks.count(grant);
     }
 
-    /// Every refusal, every kind of grant and every kind of cut came at least `least` times.
+    /// Every refusal, every kind of grant and every kind of cut came at least `least` times; and with
+    /// the flag too each refusal that there is of such a request.
     fn assert_all(&self, least: u64) {
         for number in NUMBERS {
             let times = self.refused[number as usize];
             assert!(times >= least, "refusal {number} came only {times} times");
         }
+        for number in [1, 2, 3, 4, 5, 6, 7, 8, 9, 11, 17, 18, 19, 20] {
+            let times = self.refused_flagged[number];
+            assert!(times >= least, "{number} with the flag: only {times} times");
+        }
+        assert_eq!(self.refused_flagged[10], 0);
+        assert!(self.without_room().iter().all(|&times| times >= least));
         let kinds = [
             ("granted", &self.granted[..]),
             ("hits", &self.hits[..]),
             ("rests", &self.rests[..]),
             ("both ends", &[self.both_ends]),
+            ("with the flag", &self.flagged[..]),
+            ("lists", &self.lists[..]),
             ("freed", &[self.freed]),
             ("reserved", &self.reserved[..]),
         ];
         assert_each(&kinds, least);
         self.assert_marks(least);
+        self.faults.assert_each(least);
+    }
+
+    /// Requests for which the table has no room, and for which the list has none.
+    fn without_room(&self) -> [u64; 2] {
+        let of_list = self.refused_flagged[11];
+        [self.refused[11] - of_list, of_list]
     }
 
     /// Every form of the keep mark, and all that comes near it, came at least `least` times.
@@ -153,17 +204,22 @@ impl Tally {
     /// Seen with `cargo test -- --nocapture`.
     fn print(&self, test: &str) {
         println!(
-            "{test}: {} calls, granted {:?}, refused {:?}, hits {:?}, rests {:?}, both ends {}, \
-             freed {}, on most {}, reserved {:?}, {:?}",
+            "{test}: {} calls, granted {:?}, with the flag {:?}, refused {:?}, of them with the flag {:?}, \
+             hits {:?}, rests {:?}, both ends {}, freed {}, on most {}, reserved {:?}, lists {:?}, \
+             {:?}, {:?}",
             self.calls,
             self.granted,
+            self.flagged,
             &self.refused[1..],
+            &self.refused_flagged[1..],
             self.hits,
             self.rests,
             self.both_ends,
             self.freed,
             self.on_most,
             self.reserved,
+            self.lists,
+            self.faults,
             self.marks
         );
     }
@@ -210,8 +266,8 @@ fn good_tables_and_those_near_them() {
     tally.print("good tables and those near them");
     tally.assert_all(1000);
     assert!(tally.calls >= 2_000_000);
-    let granted: u64 = tally.granted.iter().sum();
-    assert!(2 * granted > tally.calls, "only {granted} grants");
+    let granted: u64 = tally.granted.iter().chain(&tally.flagged).sum();
+    assert!(5 * granted > 2 * tally.calls, "only {granted} grants");
     assert!(tally.on_most >= 500, "only {} grants", tally.on_most);
 }
 
@@ -234,7 +290,7 @@ fn any_words() {
         ask_both(&mut random, &mut tally, &table, &record);
     }
     tally.print("any words");
-    for number in [1, 2, 3, 4, 5, 7, 8, 17] {
+    for number in [1, 2, 3, 4, 5, 7, 8, 17, 18] {
         let times = tally.refused[number];
         assert!(times >= 1000, "refusal {number} came only {times} times");
     }
@@ -312,13 +368,19 @@ fn page_ends(good: &Good) -> Vec<u64> {
 
 fn ask_range(tally: &mut Tally, table: &Table, from: u64, to: u64) {
     let size = to.wrapping_sub(from);
-    for (op, object, offset) in [(MAP, 7, PAGE), (UNMAP, 0, 0)] {
+    for (op, object, offset, flags) in [
+        (MAP, 7, PAGE, 0),
+        (UNMAP, 0, 0, 0),
+        (MAP, 0, 0, SPARSE),
+        (UNMAP, 0, 0, SPARSE),
+    ] {
         let request = Request {
             op,
             address: from,
             size,
             object,
             offset,
+            flags,
         };
         tally.compare_numbers(table, &request).ok();
     }
@@ -350,18 +412,14 @@ fn check_pages(tally: &mut Tally, table: &Table, request: &Request) -> bool {
     let Ok(grant) = tally.compare_numbers(table, request) else {
         return false;
     };
-    let new = Table {
-        space: table.space,
-        words: tally.caller.table().to_vec(),
-        count: grant.count,
-    };
+    let new = tally.caller.left(table.space, &grant);
     assert_pages(table, &new, request, &grant, tally.caller.operations());
     true
 }
 
 #[test]
 fn page_by_page() {
-    const TABLES: u64 = 20_000;
+    const TABLES: u64 = 30_000;
     const ROUNDS: u64 = 5;
     let mut random = Random::new(131);
     let mut tally = Tally::new(132);
@@ -382,6 +440,7 @@ fn page_by_page() {
     assert!(checked >= TABLES * ROUNDS / 2);
     assert!(tally.hits.iter().all(|&times| times >= 1000));
     assert!(tally.rests.iter().all(|&times| times >= 1000));
+    assert!(tally.flagged.iter().all(|&times| times >= 1000));
     tally.assert_marks(50);
 }
 
@@ -410,40 +469,56 @@ fn every_table(pages: u32, objects: [u64; 2]) -> impl Iterator<Item = Vec<Mappin
     })
 }
 
+/// Every range of so many pages with each kind of request, followed page by page. One of the maps
+/// goes on as the mappings of its object do.
+fn check_ranges(tally: &mut Tally, table: &Table, pages: u64) {
+    for from in 0..pages {
+        for to in from + 1..=pages {
+            for (op, object, offset, flags) in [
+                (MAP, 7, from + 1, 0),
+                (MAP, 9, 4, 0),
+                (UNMAP, 0, 0, 0),
+                (MAP, 0, 0, SPARSE),
+                (UNMAP, 0, 0, SPARSE),
+            ] {
+                let request = Request {
+                    op,
+                    address: from * PAGE,
+                    size: (to - from) * PAGE,
+                    object,
+                    offset: offset * PAGE,
+                    flags,
+                };
+                check_pages(tally, table, &request);
+            }
+        }
+    }
+}
+
 /// One of the maps goes on as the mappings of its object do, before it and behind it: nothing is
 /// joined.
 #[test]
 fn every_table_of_six_pages() {
     const PAGES: u64 = 6;
+    let mut random = Random::new(140);
     let mut tally = Tally::new(141);
+    let space = space_of([0, PAGES * PAGE, 0, 0]);
     let of_one = every_table(PAGES as u32, [7, 7]);
     for mappings in of_one.chain(every_table(PAGES as u32, [7, 8])) {
-        let words: Vec<u64> = mappings.iter().flat_map(Mapping::words).collect();
         for spare in 0..=2 {
-            let mut table = Table {
-                space: space_of([0, PAGES * PAGE, 0, 0]),
-                words: words.clone(),
-                count: mappings.len() as u64,
+            let good = Good {
+                space,
+                list: good_list(&mut random, &space, &mappings),
+                mappings: mappings.clone(),
             };
-            table.words.resize(words.len() + spare * MAPPING_WORDS, 0);
-            for from in 0..PAGES {
-                for to in from + 1..=PAGES {
-                    for (op, object, offset) in [(MAP, 7, from + 1), (MAP, 9, 4), (UNMAP, 0, 0)] {
-                        let request = Request {
-                            op,
-                            address: from * PAGE,
-                            size: (to - from) * PAGE,
-                            object,
-                            offset: offset * PAGE,
-                        };
-                        check_pages(&mut tally, &table, &request);
-                    }
-                }
-            }
+            check_ranges(&mut tally, &good.table(spare), PAGES);
         }
     }
     tally.print("every table of six pages");
-    assert!(tally.refused[2] > 0 && tally.refused[11] > 0);
+    assert!(tally.refused[2] > 0);
+    assert!(tally.without_room().iter().all(|&times| times >= 100));
+    assert!(tally.flagged.iter().all(|&times| times >= 100));
+    assert!(tally.refused[19] >= 100 && tally.refused[20] >= 100);
     assert!(tally.marks.kept.iter().all(|&times| times >= 100));
     assert!(tally.marks.around >= 100);
 }

@@ -4,7 +4,8 @@ use waylluqen_compare::calls::{check, Way};
 use waylluqen_compare::numbers::{
     disturb_space, edge_spaces, edges, good_space, space_of, HALF, LIMIT,
 };
-use waylluqen_compare::requests::{disturb_record, good_record, place, LONGEST_RECORD, MAP, UNMAP};
+use waylluqen_compare::requests::{disturb_record, good_record, place, LONGEST_RECORD};
+use waylluqen_compare::requests::{MAP, SPARSE, UNMAP};
 use waylluqen_model::random::Random;
 use waylluqen_model::{Record, Space, PAGE, RECORD_BYTES};
 
@@ -74,6 +75,9 @@ fn any_inputs() {
                 record[field].fill(0);
             }
         }
+        if random.once_in(4) {
+            record[4..8].copy_from_slice(&SPARSE.to_le_bytes());
+        }
         let space = match random.below(4) {
             0 => space_of([0; 4].map(|_| random.next_u64())),
             _ => good_space(&mut random),
@@ -105,14 +109,40 @@ fn every_record_length() {
     assert_eq!(tally.seen[12], ROUNDS * 2 * (lengths - 1));
 }
 
-/// This range and offset with both ops and with the lowest and highest objects.
+/// This range and offset with both ops, with the lowest and highest objects, and with the flag.
 fn compare_ops_and_objects(tally: &mut Tally, space: &Space, [addr, range, bo_offset]: [u64; 3]) {
     for op in [MAP, UNMAP] {
         for handle in [0, 1, u32::MAX] {
             let record = Record::plain(op, handle, addr, bo_offset, range);
-            tally.compare(&record.encode(), space);
+            for flags in [0, SPARSE] {
+                tally.compare(&Record { flags, ..record }.encode(), space);
+            }
         }
     }
+}
+
+/// Each bit of the flags alone and beside the one that there is, with a pad and without.
+#[test]
+fn every_flag() {
+    let mut tally = Tally::default();
+    let space = space_of([0, 16 * PAGE, 0, 0]);
+    for op in [MAP, UNMAP, 2] {
+        for (handle, pad) in [(0, 0), (7, 0), (0, 1), (0, SPARSE)] {
+            for bit in 0..32 {
+                for flags in [1 << bit, SPARSE | 1 << bit] {
+                    let record = Record {
+                        flags,
+                        pad,
+                        ..Record::plain(op, handle, PAGE, 0, PAGE)
+                    };
+                    tally.compare(&record.encode(), &space);
+                }
+            }
+        }
+    }
+    // The flag itself, twice for each op.
+    assert_eq!((tally.seen[0], tally.seen[9]), (2 * 2, 2 * 2));
+    assert_eq!(tally.seen[13], 4 * 32 * 2);
 }
 
 /// Every address, size and offset at an edge, together, in one space. Answers the number of
@@ -139,7 +169,7 @@ fn compare_requests_at_edges(tally: &mut Tally, space: &Space) -> u64 {
             }
         }
     }
-    (places.len() * sizes.len() * offsets.len() * 6) as u64
+    (places.len() * sizes.len() * offsets.len() * 12) as u64
 }
 
 #[test]

@@ -1,10 +1,12 @@
 //! A request in pieces: asked one by one, in any order and as often as one likes, they end where
-//! the uncut request ends, if each was granted at least once.
+//! the uncut request ends, if each was granted at least once. The list of sparse ranges is lent the
+//! same throughout, and stays so.
 
-use waylluqen::Refusal;
+use waylluqen::{Ranges, Refusal};
 use waylluqen_compare::calls::{model_answer, Asking};
 use waylluqen_compare::library;
-use waylluqen_compare::near::{near_record, widen};
+use waylluqen_compare::lists;
+use waylluqen_compare::near::{near_plain_record, widen};
 use waylluqen_compare::numbers::{disturb_space, other64};
 use waylluqen_compare::requests::disturb_record;
 use waylluqen_compare::tables::{
@@ -12,16 +14,15 @@ use waylluqen_compare::tables::{
 };
 use waylluqen_model::bind::least_operation_words;
 use waylluqen_model::random::Random;
-use waylluqen_model::{Mapping, Record, Request, MAP, MAPPING_WORDS, PAGE};
+use waylluqen_model::{Mapping, Record, Request, SparseRange, MAP, MAPPING_WORDS, PAGE};
 
 /// How many operations a request left, or why it was refused.
 type Answer = Result<usize, Refusal>;
 
-/// What is asked for: numbers, and the flags and pad that a record has besides.
+/// What is asked for: numbers with flags, and the pad that a record has besides.
 #[derive(Clone, Copy, Debug, PartialEq)]
 struct Asked {
     request: Request,
-    flags: u32,
     pad: u32,
 }
 
@@ -30,7 +31,7 @@ impl Asked {
     fn record(&self) -> Option<Record> {
         Some(Record {
             op: self.request.op.try_into().ok()?,
-            flags: self.flags,
+            flags: self.request.flags.try_into().ok()?,
             handle: self.request.object.try_into().ok()?,
             pad: self.pad,
             addr: self.request.address,
@@ -78,7 +79,7 @@ impl Series {
     fn ask(&mut self, random: &mut Random, asked: &Asked) -> Answer {
         self.operations.fill_with(|| random.next_u64());
         let before = (self.table.words.clone(), self.operations.clone());
-        let plain = asked.flags == 0 && asked.pad == 0;
+        let plain = asked.request.flags == 0 && asked.pad == 0;
         let record = asked.record().filter(|_| !plain || random.once_in(2));
         let bytes = record.map(|record| record.encode());
         let asking = match &bytes {
@@ -92,16 +93,20 @@ impl Series {
         answer
     }
 
-    /// Goes on with the count that the library gives, and compares the answer to the model's.
+    /// Goes on with the count that the library gives, and compares the answer to the model's. The
+    /// list stays as it is.
     fn ask_as(&mut self, asking: Asking) -> Answer {
         let model = model_answer(&self.table, self.operations.len(), asking);
         let Table {
             space,
+            list: lent,
             words,
             count,
         } = &mut self.table;
+        let before = lent.clone();
         let space = library::space(space);
-        let mut table = waylluqen::Table::with_count(words, *count);
+        let ranges = Ranges::with_count(&mut lent.words, lent.count);
+        let mut table = waylluqen::Table::with_count(words, *count).with_ranges(ranges);
         let list = &mut self.operations;
         let operations = match asking {
             Asking::Numbers(request) => {
@@ -114,6 +119,8 @@ impl Series {
             }
         };
         *count = table.count();
+        assert_eq!(table.ranges().count(), before.count);
+        assert_eq!(table.ranges().words(), before.words);
         let answer = operations.map(|operations| operations.len());
         let expected = model.map(|grant| grant.operations.len());
         assert_eq!(answer, expected.map_err(library::refusal), "{asking:x?}");
@@ -229,9 +236,12 @@ struct Tally {
     pieces_alone: u64,
     unaligned: u64,
     unaligned_granted: u64,
-    /// Refused uncut and in pieces; those of them for stale words.
+    /// Every one of several pieces was granted, of a range that shares a byte with a sparse one.
+    in_sparse: u64,
+    /// Refused uncut and in pieces; those of them for stale words, and for a bad list.
     refused: u64,
     stale: u64,
+    bad_ranges: u64,
     repeated: u64,
     left_out: u64,
     mixed: u64,
@@ -297,31 +307,50 @@ fn check(random: &mut Random, tally: &mut Tally, start: &Table, asked: &Asked) {
     if uncut_answer.is_ok() {
         assert_eq!(outcome.other_refusal, None, "{asked:x?}");
     }
-    if uncut_answer == Err(Refusal::StaleWords) {
-        let is_stale = |refusal: Refusal| refusal == Refusal::StaleWords;
-        let granted = outcome.granted.contains(&true) || outcome.without_room;
-        assert!(!granted && outcome.other_refusal.is_none_or(is_stale));
-        tally.stale += u64::from(outcome.other_refusal.is_some_and(is_stale));
-    }
+    tally.note_lent(uncut_answer, &outcome);
     if outcome.granted.iter().all(|&granted| granted) {
         assert!(uncut_answer.is_ok(), "{uncut_answer:?}, {asked:x?}");
-        let pieces: Option<Vec<Asked>> = pieces.iter().copied().collect();
-        let pieces = pieces.expect("each was granted");
-        let (count, words) = match asked.request.op {
-            MAP => (
-                uncut.table.count + pieces.len() as u64 - 1,
-                with_pieces(&uncut.table, asked, &pieces),
-            ),
-            _ => (uncut.table.count, uncut.table.words),
-        };
-        assert_eq!((series.table.count, &series.table.words), (count, &words));
+        assert_same_end(asked, &pieces, uncut, &series);
+        let extent = asked.request.extent();
+        let shares = |range: &SparseRange| range.extent().shares_byte_with(&extent);
+        let in_sparse = pieces.len() > 1 && start.list.ranges().iter().any(shares);
+        tally.in_sparse += u64::from(in_sparse);
     }
     tally.note(asked, uncut_answer, &outcome, order.len());
     tally.calls += series.by_record + series.by_numbers;
     tally.mixed += u64::from(series.by_record > 0 && series.by_numbers > 0);
 }
 
+/// Each of the pieces was granted: the end is the uncut request's, with a map's pieces in its place.
+fn assert_same_end(asked: &Asked, pieces: &[Option<Asked>], uncut: Series, series: &Series) {
+    let pieces: Option<Vec<Asked>> = pieces.iter().copied().collect();
+    let pieces = pieces.expect("each was granted");
+    let (count, words) = match asked.request.op {
+        MAP => (
+            uncut.table.count + pieces.len() as u64 - 1,
+            with_pieces(&uncut.table, asked, &pieces),
+        ),
+        _ => (uncut.table.count, uncut.table.words),
+    };
+    assert_eq!((series.table.count, &series.table.words), (count, &words));
+}
+
 impl Tally {
+    /// Where the table or the list as they are lent are refused, they are for each piece.
+    fn note_lent(&mut self, uncut: Answer, outcome: &Outcome) {
+        let Err(lent @ (Refusal::StaleWords | Refusal::BadRanges)) = uncut else {
+            return;
+        };
+        let is_same = |refusal: Refusal| refusal == lent;
+        let granted = outcome.granted.contains(&true) || outcome.without_room;
+        assert!(!granted && outcome.other_refusal.is_none_or(is_same));
+        let times = match lent {
+            Refusal::StaleWords => &mut self.stale,
+            _ => &mut self.bad_ranges,
+        };
+        *times += u64::from(outcome.other_refusal.is_some_and(is_same));
+    }
+
     fn note(&mut self, asked: &Asked, uncut: Answer, outcome: &Outcome, asked_times: usize) {
         let pieces = outcome.granted.len();
         let granted = outcome.granted.iter().filter(|&&granted| granted).count();
@@ -347,55 +376,45 @@ impl Tally {
         count(&mut self.unaligned_granted, unaligned && granted > 0);
     }
 
-    fn assert_all(&self, least: u64) {
-        let Tally {
-            series: _,
-            calls: _,
-            all_granted: [maps, unmaps],
-            all_granted_over_old,
-            without_room,
-            room_later,
-            uncut_alone,
-            pieces_alone,
-            unaligned,
-            unaligned_granted,
-            refused,
-            stale,
-            repeated,
-            left_out,
-            mixed,
-            unaskable,
-        } = *self;
-        let all = [
+    /// Each situation with its name.
+    fn situations(&self) -> [(&'static str, u64); 17] {
+        let [maps, unmaps] = self.all_granted;
+        [
             ("all pieces of a map granted", maps),
             ("all pieces of an unmap granted", unmaps),
-            ("all pieces granted over old mappings", all_granted_over_old),
-            ("no room for a piece", without_room),
-            ("room for it later", room_later),
-            ("granted uncut alone", uncut_alone),
-            ("granted in pieces alone", pieces_alone),
-            ("unaligned", unaligned),
-            ("unaligned, a piece granted", unaligned_granted),
-            ("refused", refused),
-            ("refused for stale words", stale),
-            ("repeated", repeated),
-            ("left out", left_out),
-            ("by numbers and by record", mixed),
-            ("a piece that can't be asked", unaskable),
-        ];
-        for (situation, times) in all {
+            ("all pieces over old mappings", self.all_granted_over_old),
+            ("all pieces granted in a sparse range", self.in_sparse),
+            ("no room for a piece", self.without_room),
+            ("room for it later", self.room_later),
+            ("granted uncut alone", self.uncut_alone),
+            ("granted in pieces alone", self.pieces_alone),
+            ("unaligned", self.unaligned),
+            ("unaligned, a piece granted", self.unaligned_granted),
+            ("refused", self.refused),
+            ("refused for stale words", self.stale),
+            ("refused for a bad list", self.bad_ranges),
+            ("repeated", self.repeated),
+            ("left out", self.left_out),
+            ("by numbers and by record", self.mixed),
+            ("a piece that can't be asked", self.unaskable),
+        ]
+    }
+
+    fn assert_all(&self, least: u64) {
+        for (situation, times) in self.situations() {
             assert!(times >= least, "{situation}: only {times} times");
         }
     }
 }
 
-/// A request near the mappings; some with an unaligned end or offset, or another fault.
+/// A request without the flag near the mappings; some with an unaligned end or offset, or another
+/// fault.
 fn some_request(random: &mut Random, good: &Good) -> Asked {
-    let mut record = near_record(random, good);
+    let mut record = near_plain_record(random, good);
     for _ in 0..4 {
         // One page has no cut.
         if record.range == PAGE {
-            record = near_record(random, good);
+            record = near_plain_record(random, good);
         }
     }
     match random.below(24) {
@@ -410,11 +429,14 @@ fn some_request(random: &mut Random, good: &Good) -> Asked {
     }
     let mut asked = Asked {
         request: record.request(),
-        flags: record.flags,
         pad: record.pad,
     };
     if random.once_in(100) {
         widen(random, &mut asked.request);
+    }
+    // Of a sparse range there are no pieces: it is one of the list.
+    if asked.request.is_sparse() {
+        asked.request.flags = 0;
     }
     asked
 }
@@ -432,6 +454,7 @@ fn some_table(random: &mut Random, good: &Good) -> Table {
         }
         3 => table.words.truncate(table.words.len() - 1),
         4 => make_stale(random, &mut table),
+        5 => lists::damage(random, &good.space, &mut table.list),
         _ => {}
     }
     table
@@ -477,6 +500,7 @@ fn any_words() {
         let asked = some_request(&mut random, &good);
         if random.once_in(2) {
             table.space = good.space;
+            table.list = good.list.clone();
         }
         if asked.request.size > 0 {
             check(&mut random, &mut tally, &table, &asked);

@@ -2,17 +2,22 @@
 
 use std::collections::BTreeSet;
 use std::error::Error;
-use waylluqen::Refusal;
+use waylluqen::{Ranges, Refusal};
 use waylluqen_compare::calls::{model_answer, Asking, Caller, Way};
 use waylluqen_compare::library::{self, NUMBERS};
+use waylluqen_compare::lists::List;
 use waylluqen_compare::numbers::{space_of, LIMIT};
-use waylluqen_compare::requests::MAP;
+use waylluqen_compare::requests::{MAP, UNMAP};
 use waylluqen_compare::tables::Table;
-use waylluqen_model::{Record, PAGE};
+use waylluqen_model::{Record, SparseRange, PAGE};
 
 const HEADER: &str = include_str!("../../../include/waylluqen.h");
 
-/// A request on a table with one mapping and no more room.
+fn range(start: u64, size: u64) -> SparseRange {
+    SparseRange { start, size }
+}
+
+/// A request on a table with one mapping and no more room, and a list with one range.
 struct Case {
     table: Table,
     operation_words: usize,
@@ -24,6 +29,7 @@ fn without_room() -> Case {
     Case {
         table: Table {
             space: space_of([0, 16 * PAGE, 14 * PAGE, 2 * PAGE]),
+            list: List::of(&[range(2 * PAGE, PAGE)], 1),
             words: vec![PAGE, PAGE, 7, 0],
             count: 1,
         },
@@ -34,7 +40,7 @@ fn without_room() -> Case {
 }
 
 /// What makes it the case of each refusal, in the order of their numbers.
-const CHANGES: [fn(&mut Case); 15] = [
+const CHANGES: [fn(&mut Case); 18] = [
     |case| case.table.space.size = 1,
     |case| case.table.words.truncate(3),
     |case| case.operation_words = 27,
@@ -53,6 +59,9 @@ const CHANGES: [fn(&mut Case); 15] = [
         case.table.words.extend([0, 0, 0, 1]);
         case.operation_words = 42;
     },
+    |case| case.table.list.words[0] = 1,
+    |case| case.record = Record::sparse(MAP, 2 * PAGE, PAGE),
+    |case| case.record = Record::sparse(UNMAP, 2 * PAGE, 2 * PAGE),
 ];
 
 /// The refusal that the library gives, which is the model's.
@@ -63,12 +72,14 @@ fn refusal_of(mut case: Case) -> Refusal {
     let mut list = vec![0; case.operation_words];
     let mut caller = Caller::new(1);
     for way in [Way::Words, Way::Types] {
-        caller.lend(&case.table.words);
+        caller.lend(&case.table);
         caller.lend_operations(&list);
         caller.bind(way, &case.table, asking, &model);
     }
     let space = library::space(&case.table.space);
-    let mut table = waylluqen::Table::with_count(&mut case.table.words, case.table.count);
+    let ranges = Ranges::with_count(&mut case.table.list.words, case.table.list.count);
+    let table = waylluqen::Table::with_count(&mut case.table.words, case.table.count);
+    let mut table = table.with_ranges(ranges);
     let answer = table.bind_record(space, bytes, &mut list);
     let refusal = answer.map(|_| ()).expect_err("each case is refused");
     assert_eq!(refusal.number(), model.expect_err("the same").number);

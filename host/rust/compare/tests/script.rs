@@ -2,9 +2,10 @@
 
 use waylluqen_compare::printed::{Tally, ENDS, LINES, NO_ROOM, REFUSALS};
 use waylluqen_compare::program::Input;
-use waylluqen_compare::scripts::{bad_script, good_script, Script, ROOM};
+use waylluqen_compare::scripts::{bad_script, good_script, Script, RANGE_ROOM, ROOM};
 use waylluqen_compare::tables::{plain_spaces, small_spaces};
 use waylluqen_model::random::Random;
+use waylluqen_model::Space;
 
 #[test]
 fn good_scripts() {
@@ -95,9 +96,11 @@ fn full_tables() {
     for space in plain_spaces() {
         for missing in [0, 0, 0, 1, 1, 2, 3, 8] {
             let mut script = Script::filled(&mut random, space, ROOM - missing);
+            script.fill_list(&mut random, 6);
             for _ in 0..40 {
                 script.narrow_step(&mut random);
             }
+            script.look_up_boundaries();
             script.sweep(&mut random);
             for _ in 0..10 {
                 script.good_step(&mut random);
@@ -112,6 +115,64 @@ fn full_tables() {
     tally.print();
     tally.assert_kinds(&LINES, 20);
     tally.assert_kinds(&[NO_ROOM], 300);
+}
+
+/// Lists that are full or nearly so, beside few mappings or many, and requests about their ranges.
+#[test]
+fn full_lists() {
+    let (mut tally, mut random) = Tally::new("full lists", 233);
+    for space in plain_spaces() {
+        for (mappings, ranges) in [
+            (2, RANGE_ROOM),
+            (8, RANGE_ROOM),
+            (40, 60),
+            (ROOM, RANGE_ROOM),
+        ] {
+            for _ in 0..3 {
+                let mut script = Script::filled(&mut random, space, mappings);
+                script.fill_list(&mut random, ranges);
+                for _ in 0..100 {
+                    script.sparse_step(&mut random);
+                }
+                script.look_up_boundaries();
+                // All that is mapped goes, so that every range can.
+                script.sweep(&mut random);
+                for _ in 0..60 {
+                    script.sparse_step(&mut random);
+                }
+                script.look_up_boundaries();
+                tally.compare_by_turn(&script.bytes);
+            }
+        }
+    }
+    tally.print();
+    tally.assert_kinds(
+        &["granted 0", "at sparse", "refused 19", "refused 20"],
+        1000,
+    );
+    tally.assert_kinds(&[NO_ROOM], 100);
+}
+
+/// A granted space empties the list, a refused one does not.
+#[test]
+fn spaces_and_lists() {
+    let (mut tally, mut random) = Tally::new("spaces and lists", 234);
+    for space in plain_spaces().into_iter().chain(small_spaces()) {
+        for _ in 0..10 {
+            let mut script = Script::empty();
+            script.space(&space);
+            for _ in 0..4 {
+                script.fill_list(&mut random, 8);
+                script.look_up_boundaries();
+                let size = random.pick(&[0, space.size, space.size]);
+                script.space(&Space { size, ..space });
+                script.look_up_boundaries();
+            }
+            tally.compare_by_turn(&script.bytes);
+        }
+    }
+    tally.print();
+    tally.assert_kinds(&["granted 0", "at sparse", "at none", "refused 1"], 100);
 }
 
 /// Look-ups at every boundary of what some requests leave: in spaces of a few pages, and in tables
@@ -133,12 +194,13 @@ fn look_ups_at_every_boundary() {
     for space in plain_spaces() {
         for missing in [0, 1, 40] {
             let mut script = Script::filled(&mut random, space, ROOM - missing);
+            script.fill_list(&mut random, 20);
             script.look_up_boundaries();
             tally.compare_by_turn(&script.bytes);
         }
     }
     tally.print();
-    tally.assert_kinds(&["at", "at none", "at none 0"], 300);
+    tally.assert_kinds(&["at", "at none", "at none 0", "at sparse"], 300);
 }
 
 #[test]

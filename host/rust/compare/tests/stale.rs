@@ -1,17 +1,17 @@
 //! Compares calls on tables with words behind the last mapping that are not zero: at each place
 //! there, two of them, and beside other faults. And where there are none, none is found.
 
-use waylluqen_compare::calls::{model_answer, Asking, Caller, Way};
+use waylluqen_compare::calls::{model_answer, model_look, Asking, Caller, Way};
 use waylluqen_compare::library::{Bound, Looked};
+use waylluqen_compare::lists::{good_list, List};
 use waylluqen_compare::near::{narrow_record, near_record};
 use waylluqen_compare::numbers::{space_of, LIMIT};
 use waylluqen_compare::requests::{good_record, MAP, UNMAP};
 use waylluqen_compare::tables::{fill_space, plain_spaces, small_spaces, Good, Table};
-use waylluqen_model::answer::STALE_WORDS;
+use waylluqen_model::answer::{BAD_RANGES, STALE_WORDS};
 use waylluqen_model::bind::least_operation_words;
 use waylluqen_model::random::Random;
-use waylluqen_model::table::mapping_at;
-use waylluqen_model::{lookup, Record, Refused, MAPPING_WORDS, MOST_MAPPINGS, PAGE};
+use waylluqen_model::{Record, Refused, MAPPING_WORDS, MOST_MAPPINGS, PAGE};
 
 const WAYS: [Way; 2] = [Way::Words, Way::Types];
 
@@ -53,7 +53,7 @@ impl Lent {
         let (records, addresses) = questions(&good);
         let table = good.table(capacity - count);
         let mut caller = Caller::new(seed);
-        caller.lend(&table.words);
+        caller.lend(&table);
         caller.lend_operations(&vec![seed; room(&table)]);
         Lent {
             caller,
@@ -89,10 +89,9 @@ impl Lent {
     }
 
     fn refuse_look_up(&mut self, way: Way, address: u64) {
-        let (space, count) = (self.table.space, self.table.count);
-        let model = lookup(&space, &self.table.words, count, address);
-        assert_eq!(model, Looked::Err(Refused::of(STALE_WORDS)));
-        self.caller.look_up(way, &space, count, address, model);
+        let model = Looked::Err(Refused::of(STALE_WORDS));
+        assert_eq!(model_look(&self.table, address), model);
+        self.caller.look_up(way, &self.table, address, model);
         self.looks += 1;
     }
 
@@ -254,6 +253,7 @@ fn without_fault() -> Case {
     Case {
         table: Table {
             space: space_of([0, 64 * PAGE, 60 * PAGE, 4 * PAGE]),
+            list: List::default(),
             words,
             count: 2,
         },
@@ -301,7 +301,7 @@ fn number(case: &Case, way: Way, by_record: bool) -> u32 {
     };
     let model = model_answer(&case.table, case.list, asking);
     let mut caller = Caller::new(541);
-    caller.lend(&case.table.words);
+    caller.lend(&case.table);
     caller.lend_operations(&vec![9; case.list]);
     caller.bind(way, &case.table, asking, &model);
     model.map_or_else(|refused| refused.number, |_| 0)
@@ -309,15 +309,10 @@ fn number(case: &Case, way: Way, by_record: bool) -> u32 {
 
 /// The same of a look-up.
 fn number_looked_up(case: &Case, way: Way) -> u32 {
-    let Table {
-        space,
-        words,
-        count,
-    } = &case.table;
-    let model = lookup(space, words, *count, PAGE);
+    let model = model_look(&case.table, PAGE);
     let mut caller = Caller::new(551);
-    caller.lend(words);
-    caller.look_up(way, space, *count, PAGE, model);
+    caller.lend(&case.table);
+    caller.look_up(way, &case.table, PAGE, model);
     model.map_or_else(|refused| refused.number, |_| 0)
 }
 
@@ -375,16 +370,16 @@ fn ask_good(random: &mut Random, table: &Table, good: &Good) -> u64 {
         for record in records {
             let asking = Asking::Numbers(record.request());
             let model = model_answer(table, room(table), asking);
-            caller.lend(&table.words);
+            caller.lend(table);
             caller.lend_operations(&vec![3; room(table)]);
             caller.bind(way, table, asking, &model);
             fine += u64::from(model.is_ok());
         }
         for address in addresses {
-            let model = lookup(&table.space, &table.words, table.count, address);
-            caller.lend(&table.words);
+            let model = model_look(table, address);
+            caller.lend(table);
             caller.stir(address);
-            caller.look_up(way, &table.space, table.count, address, model);
+            caller.look_up(way, table, address, model);
             fine += u64::from(model.is_ok());
         }
     }
@@ -444,7 +439,8 @@ fn next_record(random: &mut Random, good: &Good) -> Record {
     }
 }
 
-/// A table that only calls write is never refused for stale words, and is left with zeros.
+/// A table and a list that only calls write are never refused for stale words, and are left with
+/// zeros.
 #[test]
 fn tables_that_only_calls_write() {
     const STEPS: u64 = 300;
@@ -453,29 +449,30 @@ fn tables_that_only_calls_write() {
     let (mut granted, mut fewer, mut without_room) = (0, 0, 0);
     for space in plain_spaces().into_iter().chain(small_spaces()) {
         for capacity in [1, 2, 5, 17, 40] {
-            let mut table = Table {
+            let list = good_list(&mut random, &space, &[]);
+            let mappings = Vec::new();
+            let empty = Good {
                 space,
-                words: vec![0; capacity * MAPPING_WORDS],
-                count: 0,
+                list,
+                mappings,
             };
+            let mut table = empty.table(capacity);
             for _ in 0..STEPS {
-                let mappings = (0..table.count as usize).map(|at| mapping_at(&table.words, at));
-                let mappings = mappings.collect();
-                let record = next_record(&mut random, &Good { space, mappings });
+                let record = next_record(&mut random, &table.good());
                 let asking = Asking::Numbers(record.request());
                 match caller.compare(&table, room(&table), asking) {
                     Ok(grant) => {
                         granted += 1;
                         fewer += u64::from(grant.count < table.count);
-                        table.words = caller.table().to_vec();
-                        table.count = grant.count;
+                        table = caller.left(space, &grant);
                     }
                     Err(refused) => {
-                        assert_ne!(refused.number, STALE_WORDS);
+                        assert!(![STALE_WORDS, BAD_RANGES].contains(&refused.number));
                         without_room += u64::from(refused.number == 11);
                     }
                 }
                 assert!(table.behind().iter().all(|&word| word == 0));
+                assert!(table.list.behind().iter().all(|&word| word == 0));
             }
         }
     }

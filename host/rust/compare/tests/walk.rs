@@ -69,21 +69,12 @@ fn walks_run_by_run() {
     let good = filled(&mut random, space, MOST_MAPPINGS);
     runs += walk_over(&mut random, &good, 0);
     for (mappings, pages_each) in [(3, 1), (512, 2)] {
-        // A gap, the mappings one by one, and a gap.
+        // A gap, the mappings one by one, and a gap: there are no sparse ranges.
         let walked = walk_over(&mut random, &cut_up(mappings, pages_each), 0);
         assert_eq!(walked as u64, mappings + 2);
     }
     println!("walks run by run: {runs} runs");
     assert!(runs >= 10_000, "only {runs} runs");
-}
-
-/// A run of nothing from one address to another, which may be the same.
-fn gap(start: u64, end: u64) -> Run {
-    Run {
-        address: start,
-        bytes: end - start,
-        shown: Shown::Nothing,
-    }
 }
 
 fn whole(mapping: &Mapping) -> Run {
@@ -105,17 +96,39 @@ fn part(run: &Run, range: &Range<u64>) -> Option<Run> {
     let start = run.address.max(range.start);
     let end = (run.address + run.bytes).min(range.end);
     let shown = match run.shown {
-        Shown::Nothing => Shown::Nothing,
         Shown::Object { object, offset } => Shown::Object {
             object,
             offset: offset + start.saturating_sub(run.address),
         },
+        other => other,
     };
     (start < end).then(|| Run {
         address: start,
         bytes: end - start,
         shown,
     })
+}
+
+/// What no mapping has, from one address to another, which may be the same: cut at the ends of the
+/// sparse ranges, and sparse where one of them is.
+fn gap(good: &Good, start: u64, end: u64) -> Vec<Run> {
+    let (mut runs, mut free) = (Vec::new(), start);
+    let mut add = |from: u64, to: u64, shown: Shown| {
+        let run = Run {
+            address: from,
+            bytes: to.saturating_sub(from),
+            shown,
+        };
+        runs.extend(part(&run, &(start..end)));
+    };
+    for range in good.list.ranges() {
+        let range_end = range.start + range.size;
+        add(free, range.start, Shown::Nothing);
+        add(range.start, range_end, Shown::Sparse);
+        free = free.max(range_end);
+    }
+    add(free, end, Shown::Nothing);
+    runs
 }
 
 /// The runs of a range, by the mappings and the gaps beside them; none if it starts outside.
@@ -127,10 +140,11 @@ fn runs_of(good: &Good, range: &Range<u64>) -> Vec<Run> {
     let mut all = Vec::new();
     let mut free = start;
     for mapping in &good.mappings {
-        all.extend([gap(free, mapping.address), whole(mapping)]);
+        all.extend(gap(good, free, mapping.address));
+        all.push(whole(mapping));
         free = mapping.address + mapping.size;
     }
-    all.push(gap(free, end));
+    all.extend(gap(good, free, end));
     all.iter().filter_map(|run| part(run, range)).collect()
 }
 
@@ -138,11 +152,12 @@ fn runs_of(good: &Good, range: &Range<u64>) -> Vec<Run> {
 fn runs_of_ranges() {
     const TABLES: u64 = 3000;
     let mut random = Random::new(121);
-    let (mut ranges, mut runs) = ([0; 3], 0);
+    let (mut ranges, mut runs, mut sparse) = ([0; 3], 0, 0);
     for _ in 0..TABLES {
         let good = good_table(&mut random, 20);
-        let words = good.words(1);
-        let view = View::new(&words, good.mappings.len() as u64);
+        let table = good.table(1);
+        let view =
+            View::new(&table.words, table.count).with_ranges(&table.list.words, table.list.count);
         for _ in 0..20 {
             let [one, other] = [(); 2].map(|()| any_address(&mut random, &good));
             let range = one..other;
@@ -153,8 +168,12 @@ fn runs_of_ranges() {
             assert_eq!(answer.as_ref(), Ok(&expected), "{range:x?}");
             ranges[expected.len().min(2)] += 1;
             runs += expected.len();
+            let is_sparse = |run: &&Run| run.shown == Shown::Sparse;
+            sparse += expected.iter().filter(is_sparse).count();
         }
     }
-    println!("runs of ranges: {ranges:?} of none, of one and of more; {runs} runs");
-    assert!(ranges.iter().all(|&times| times >= 1000));
+    println!(
+        "runs of ranges: {ranges:?} of none, of one and of more; {runs} runs, {sparse} sparse"
+    );
+    assert!(ranges.iter().all(|&times| times >= 1000) && sparse >= 1000);
 }

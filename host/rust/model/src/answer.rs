@@ -16,6 +16,9 @@ pub const BAD_RECORD_LENGTH: u32 = 12;
 pub const BAD_OP: u32 = 13;
 pub const BAD_FLAGS: u32 = 14;
 pub const STALE_WORDS: u32 = 17;
+pub const BAD_RANGES: u32 = 18;
+pub const RANGE_OVERLAPS: u32 = 19;
+pub const NO_SUCH_RANGE: u32 = 20;
 
 /// A refusal: its number, and the place of a mapping that is refused, else 0.
 #[derive(Clone, Copy, Debug, PartialEq, Eq)]

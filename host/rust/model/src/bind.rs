@@ -1,9 +1,9 @@
 //! What a map or an unmap does: the answer, the operations, and the mappings afterwards.
 
-use crate::request::op_holds;
-use crate::table::{check_table, mapping_at};
-use crate::{answer, decode, request_refusal, Extent, Mapping, Refused, Request, Space};
-use crate::{MAP, MAPPING_WORDS};
+use crate::request::form_refusal;
+use crate::table::{capacity, check_lent, Found};
+use crate::{answer, decode, request_refusal, Extent, List, Mapping, Refused, Request, Space};
+use crate::{SparseRange, MAP, MAPPING_WORDS};
 use alloc::vec::Vec;
 
 /// An operation is this many words.
@@ -47,6 +47,7 @@ pub struct Grant {
     pub operations: Vec<Operation>,
     pub count: u64,
     pub mappings: Vec<Mapping>,
+    pub ranges: Vec<SparseRange>,
 }
 
 /// A number of a space that keeps its rules, or an offset that a mapping has.
@@ -103,7 +104,8 @@ fn new_mapping(request: &Request) -> Option<Mapping> {
 }
 
 /// Carries out a request that is not refused for itself: first who is hit, then what comes of it.
-fn carry_out(mappings: &[Mapping], request: &Request) -> Grant {
+/// The sparse ranges stay.
+fn carry_out(Found { mappings, ranges }: Found, request: &Request) -> Grant {
     let range = request.extent();
     let (hit, spared): (Vec<Mapping>, Vec<Mapping>) = mappings
         .iter()
@@ -129,27 +131,72 @@ fn carry_out(mappings: &[Mapping], request: &Request) -> Grant {
         operations,
         count,
         mappings: after,
+        ranges,
     }
+}
+
+/// The ranges after one more, in its place, unless it shares a byte with one of them.
+fn with_range(ranges: &[SparseRange], new: SparseRange) -> Result<Vec<SparseRange>, Refused> {
+    let in_the_way = |range: &SparseRange| range.extent().shares_byte_with(&new.extent());
+    if ranges.iter().any(in_the_way) {
+        return Err(Refused::of(answer::RANGE_OVERLAPS));
+    }
+    let mut after = ranges.to_vec();
+    after.push(new);
+    after.sort_by_key(|range| range.start);
+    Ok(after)
+}
+
+/// The ranges without one of them, unless it is none of them or something is mapped there.
+fn without_range(found: &Found, old: SparseRange) -> Result<Vec<SparseRange>, Refused> {
+    let is_there = |mapping: &Mapping| mapping.extent().shares_byte_with(&old.extent());
+    if !found.ranges.contains(&old) || found.mappings.iter().any(is_there) {
+        return Err(Refused::of(answer::NO_SUCH_RANGE));
+    }
+    let mut after = found.ranges.clone();
+    after.retain(|range| *range != old);
+    Ok(after)
+}
+
+/// Adds a sparse range or removes one. Nothing is for the driver to do, and the mappings stay.
+fn change_ranges(found: Found, request: &Request) -> Result<Grant, Refused> {
+    let asked = SparseRange {
+        start: request.address,
+        size: request.size,
+    };
+    let ranges = match request.op {
+        MAP => with_range(&found.ranges, asked),
+        _ => without_range(&found, asked),
+    };
+    Ok(Grant {
+        operations: Vec::new(),
+        count: found.mappings.len() as u64,
+        mappings: found.mappings,
+        ranges: ranges?,
+    })
 }
 
 /// The answer to a request by numbers.
 pub fn bind(
     space: &Space,
+    list: &List,
     table: &[u64],
     count: u64,
     operation_words: usize,
     request: &Request,
 ) -> Result<Grant, Refused> {
-    if !op_holds(request.op) {
-        return Err(Refused::of(answer::BAD_OP));
+    if let Some(number) = form_refusal(request) {
+        return Err(Refused::of(number));
     }
-    let places = check_table(space, table, count, Some(operation_words))?;
+    let found = check_lent(space, list, table, count, Some(operation_words))?;
     if let Some(number) = request_refusal(request, space) {
         return Err(Refused::of(number));
     }
-    let mappings: Vec<Mapping> = (0..places).map(|place| mapping_at(table, place)).collect();
-    let grant = carry_out(&mappings, request);
-    if grant.count > (table.len() / MAPPING_WORDS) as u64 {
+    let grant = match request.is_sparse() {
+        true => change_ranges(found, request)?,
+        false => carry_out(found, request),
+    };
+    if grant.count > capacity(table) as u64 || grant.ranges.len() > list.capacity() {
         return Err(Refused::of(answer::NO_ROOM));
     }
     Ok(grant)
@@ -158,11 +205,12 @@ pub fn bind(
 /// The answer to a request in a record.
 pub fn bind_record(
     space: &Space,
+    list: &List,
     table: &[u64],
     count: u64,
     operation_words: usize,
     record: &[u8],
 ) -> Result<Grant, Refused> {
     let request = decode(record).map_err(Refused::of)?;
-    bind(space, table, count, operation_words, &request)
+    bind(space, list, table, count, operation_words, &request)
 }

@@ -5,9 +5,12 @@ use crate::{answer, is_page_multiple, Extent, Space, HIGHEST_OBJECT, LIMIT};
 pub const MAP: u64 = 0;
 pub const UNMAP: u64 = 1;
 
+/// The one flag that there is: a request for a sparse range, bit 8.
+pub const SPARSE: u64 = 1 << 8;
+
 pub const RECORD_BYTES: usize = 40;
 
-/// The numbers of a request, in their order.
+/// The numbers of a request, in their order, and its flags, which only a record brings to C.
 #[derive(Clone, Copy, Debug, PartialEq, Eq)]
 pub struct Request {
     pub op: u64,
@@ -15,11 +18,22 @@ pub struct Request {
     pub size: u64,
     pub object: u64,
     pub offset: u64,
+    pub flags: u64,
 }
 
 impl Request {
     pub fn extent(&self) -> Extent {
         Extent::new(self.address, self.size)
+    }
+
+    /// Whether it asks for a sparse range to be added or removed, and not for a mapping.
+    pub fn is_sparse(&self) -> bool {
+        self.flags == SPARSE
+    }
+
+    /// The same by numbers, as C has them: flags count as 0.
+    pub fn without_flags(self) -> Request {
+        Request { flags: 0, ..self }
     }
 }
 
@@ -49,6 +63,14 @@ impl Record {
         }
     }
 
+    /// A record with the flag, of a sparse range. It names no object and has no offset.
+    pub fn sparse(op: u32, addr: u64, range: u64) -> Record {
+        Record {
+            flags: SPARSE as u32,
+            ..Record::plain(op, 0, addr, 0, range)
+        }
+    }
+
     /// The bytes of any fields, also of those that `decode` refuses.
     pub fn encode(&self) -> [u8; RECORD_BYTES] {
         let mut bytes = [0; RECORD_BYTES];
@@ -62,7 +84,7 @@ impl Record {
         bytes
     }
 
-    /// The same as numbers, which have no flags and no pad.
+    /// The same as numbers, which have no pad.
     pub fn request(&self) -> Request {
         Request {
             op: u64::from(self.op),
@@ -70,6 +92,7 @@ impl Record {
             size: self.range,
             object: u64::from(self.handle),
             offset: self.bo_offset,
+            flags: u64::from(self.flags),
         }
     }
 }
@@ -82,8 +105,19 @@ pub(crate) fn number(bytes: &[u8]) -> u64 {
         .fold(0, |sum, &byte| sum * 256 + u64::from(byte))
 }
 
-pub fn op_holds(op: u64) -> bool {
+fn op_holds(op: u64) -> bool {
     op == MAP || op == UNMAP
+}
+
+/// What a request is refused for before anything else that is lent is looked at.
+pub fn form_refusal(request: &Request) -> Option<u32> {
+    if !op_holds(request.op) {
+        Some(answer::BAD_OP)
+    } else if request.flags != 0 && !request.is_sparse() {
+        Some(answer::BAD_FLAGS)
+    } else {
+        None
+    }
 }
 
 /// The request in a record, or the refusal of the record itself.
@@ -100,13 +134,12 @@ pub fn decode(bytes: &[u8]) -> Result<Request, u32> {
         bo_offset: number(&bytes[24..32]),
         range: number(&bytes[32..40]),
     };
-    if !op_holds(u64::from(record.op)) {
-        return Err(answer::BAD_OP);
+    let request = record.request();
+    match form_refusal(&request) {
+        Some(number) => Err(number),
+        None if record.pad != 0 => Err(answer::BAD_FLAGS),
+        None => Ok(request),
     }
-    if record.flags != 0 || record.pad != 0 {
-        return Err(answer::BAD_FLAGS);
-    }
-    Ok(record.request())
 }
 
 fn is_aligned(request: &Request) -> bool {
@@ -116,10 +149,10 @@ fn is_aligned(request: &Request) -> bool {
         && request.size != 0
 }
 
-/// A map names an object; an unmap names none and has no offset.
+/// A map names an object; an unmap, or what asks for a sparse range, names none and has no offset.
 fn object_holds(request: &Request) -> bool {
     match request.op {
-        MAP => (1..=HIGHEST_OBJECT).contains(&request.object),
+        MAP if !request.is_sparse() => (1..=HIGHEST_OBJECT).contains(&request.object),
         _ => request.object == 0 && request.offset == 0,
     }
 }
@@ -128,7 +161,7 @@ fn offset_holds(request: &Request) -> bool {
     request.op != MAP || Extent::new(request.offset, request.size).end <= LIMIT
 }
 
-/// The first rule that a request breaks in a space that keeps its own; its op is a good one.
+/// The first rule that a request breaks in a space that keeps its own; its op and flags are good.
 pub fn request_refusal(request: &Request, space: &Space) -> Option<u32> {
     if !is_aligned(request) {
         Some(answer::UNALIGNED)

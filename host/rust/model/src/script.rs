@@ -3,12 +3,16 @@
 use crate::bind::{least_operation_words, KIND_MAP, KIND_REMAP};
 use crate::request::number;
 use crate::{answer, bind_record, lookup, space_holds};
-use crate::{Grant, Mapping, Operation, Refused, Seen, Shown, Space, MAPPING_WORDS, RECORD_BYTES};
+use crate::{Grant, List, Mapping, Operation, Refused, Seen, Shown, Space, SparseRange};
+use crate::{MAPPING_WORDS, MOST_RANGES, RANGE_WORDS, RECORD_BYTES};
 use alloc::string::String;
 use core::fmt::{Arguments, Write};
 
 /// The program's table has room for this many mappings.
 pub const SCRIPT_MAPPINGS: usize = 256;
+
+/// Its list has room for this many sparse ranges.
+pub const SCRIPT_RANGES: usize = MOST_RANGES;
 
 /// The bytes of a mark, and of the records `SP` and `LK` behind theirs.
 pub const MARK_BYTES: usize = 2;
@@ -65,16 +69,21 @@ pub fn first_part(bytes: &[u8]) -> Part<'_> {
 /// What the program keeps from record to record, and what it has printed.
 struct Program {
     space: Space,
+    list: [u64; SCRIPT_RANGES * RANGE_WORDS],
+    ranges: u64,
     table: [u64; SCRIPT_MAPPINGS * MAPPING_WORDS],
     count: u64,
     printed: String,
 }
 
 impl Program {
-    /// Before the first record: a space of four zeros, which breaks its rules, and no mapping.
+    /// Before the first record: a space of four zeros, which breaks its rules, no sparse range and
+    /// no mapping.
     fn new() -> Program {
         Program {
             space: space_in(&[0; SPACE_BYTES]),
+            list: [0; SCRIPT_RANGES * RANGE_WORDS],
+            ranges: 0,
             table: [0; SCRIPT_MAPPINGS * MAPPING_WORDS],
             count: 0,
             printed: String::new(),
@@ -97,13 +106,23 @@ impl Program {
         }
     }
 
-    /// A granted space empties the table, a refused one changes nothing.
+    /// The list as the calls are lent it.
+    fn list(&self) -> List<'_> {
+        List {
+            words: &self.list,
+            count: self.ranges,
+        }
+    }
+
+    /// A granted space empties the table and the list, a refused one changes nothing.
     fn take_space(&mut self, record: &[u8]) {
         let space = space_in(record);
         if !space_holds(&space) {
             return self.print_refusal(Refused::of(answer::BAD_SPACE));
         }
         self.space = space;
+        self.list.fill(0);
+        self.ranges = 0;
         self.table.fill(0);
         self.count = 0;
         self.print(format_args!("space {SCRIPT_MAPPINGS}"));
@@ -111,25 +130,30 @@ impl Program {
 
     fn take_request(&mut self, record: &[u8]) {
         let room = least_operation_words(SCRIPT_MAPPINGS);
-        match bind_record(&self.space, &self.table, self.count, room, record) {
+        let (list, count) = (self.list(), self.count);
+        match bind_record(&self.space, &list, &self.table, count, room, record) {
             Ok(grant) => self.carry_out(&grant),
             Err(refused) => self.print_refusal(refused),
         }
     }
 
-    /// The table becomes what the grant leaves, with zeros behind it.
+    /// Table and list become what the grant leaves, with zeros behind it.
     fn carry_out(&mut self, grant: &Grant) {
         let operations = grant.operations.len();
         self.print(format_args!("granted {operations} {}", grant.count));
         for operation in &grant.operations {
             self.print_operation(operation);
         }
-        self.table.fill(0);
-        let places = self.table.chunks_exact_mut(MAPPING_WORDS);
-        for (place, mapping) in places.zip(&grant.mappings) {
-            place.copy_from_slice(&mapping.words());
-        }
+        put(
+            &mut self.table,
+            grant.mappings.iter().flat_map(Mapping::words),
+        );
+        put(
+            &mut self.list,
+            grant.ranges.iter().flat_map(SparseRange::words),
+        );
         self.count = grant.count;
+        self.ranges = grant.ranges.len() as u64;
     }
 
     fn print_operation(&mut self, operation: &Operation) {
@@ -158,7 +182,7 @@ impl Program {
 
     fn take_lookup(&mut self, record: &[u8]) {
         let address = number(record);
-        match lookup(&self.space, &self.table, self.count, address) {
+        match lookup(&self.space, &self.list(), &self.table, self.count, address) {
             Ok(seen) => self.print_seen(address, seen),
             Err(refused) => self.print_refusal(refused),
         }
@@ -167,10 +191,19 @@ impl Program {
     fn print_seen(&mut self, address: u64, Seen { shown, bytes }: Seen) {
         match shown {
             Shown::Nothing => self.print(format_args!("at {address} none {bytes}")),
+            Shown::Sparse => self.print(format_args!("at {address} sparse {bytes}")),
             Shown::Object { object, offset } => {
                 self.print(format_args!("at {address} {object} {offset} {bytes}"));
             }
         }
+    }
+}
+
+/// Puts these words in front, and zeros behind them.
+fn put(words: &mut [u64], new: impl Iterator<Item = u64>) {
+    let zeros = core::iter::repeat(0);
+    for (word, new) in words.iter_mut().zip(new.chain(zeros)) {
+        *word = new;
     }
 }
 

@@ -1,7 +1,10 @@
 //! A table of mappings in lent words, and its rules.
 
 use crate::bind::least_operation_words;
-use crate::{answer, mapping_holds, space_holds, Mapping, Refused, Space, MAPPING_WORDS};
+use crate::ranges::ranges_of;
+use crate::MAPPING_WORDS;
+use crate::{answer, mapping_holds, space_holds, List, Mapping, Refused, Space, SparseRange};
+use alloc::vec::Vec;
 
 /// A table has room for one mapping at least and for this many at most.
 pub const MOST_MAPPINGS: usize = 4096;
@@ -48,14 +51,21 @@ pub fn has_stale_word(table: &[u64], count: usize) -> bool {
     table[count * MAPPING_WORDS..].iter().any(|&word| word != 0)
 }
 
-/// The first reason not to look at a table; else the number of its mappings. A call that writes
+/// What is mapped and what is sparse, as a call found it.
+pub struct Found {
+    pub mappings: Vec<Mapping>,
+    pub ranges: Vec<SparseRange>,
+}
+
+/// The first reason not to look at what a call was lent; else what is there. A call that writes
 /// operations was lent words for them.
-pub fn check_table(
+pub fn check_lent(
     space: &Space,
+    list: &List,
     table: &[u64],
     count: u64,
     operation_words: Option<usize>,
-) -> Result<usize, Refused> {
+) -> Result<Found, Refused> {
     if !space_holds(space) {
         return Err(Refused::of(answer::BAD_SPACE));
     }
@@ -79,5 +89,7 @@ pub fn check_table(
     if has_stale_word(table, count) {
         return Err(Refused::of(answer::STALE_WORDS));
     }
-    Ok(count)
+    let ranges = ranges_of(list, space).ok_or(Refused::of(answer::BAD_RANGES))?;
+    let mappings = (0..count).map(|place| mapping_at(table, place)).collect();
+    Ok(Found { mappings, ranges })
 }

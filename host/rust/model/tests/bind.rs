@@ -1,7 +1,7 @@
 //! The model's answers to the drawings, worked out by hand, in pages.
 
 use waylluqen_model::{
-    bind, lookup, replay, Mapping, Pages, Refused, Request, Space, MAP, MAPPING_WORDS,
+    bind, lookup, replay, List, Mapping, Pages, Refused, Request, Space, MAP, MAPPING_WORDS,
     OPERATION_WORDS, PAGE, UNMAP,
 };
 
@@ -39,6 +39,7 @@ fn request(op: u64, drawn: Drawn) -> Request {
         size,
         object,
         offset,
+        flags: 0,
     }
 }
 
@@ -59,7 +60,8 @@ fn ask(old: &[Drawn], capacity: usize, request: &Request) -> Result<(Vec<u64>, V
     let mut table: Vec<u64> = mappings.iter().flat_map(Mapping::words).collect();
     table.resize(capacity * MAPPING_WORDS, 0);
     let room = (capacity + 1) * OPERATION_WORDS;
-    let grant = bind(&SPACE, &table, old.len() as u64, room, request);
+    let count = old.len() as u64;
+    let grant = bind(&SPACE, &List::NONE, &table, count, room, request);
     let grant = grant.map_err(|Refused { number, .. }| number)?;
     let words: Vec<u64> = grant
         .operations
@@ -67,24 +69,25 @@ fn ask(old: &[Drawn], capacity: usize, request: &Request) -> Result<(Vec<u64>, V
         .flat_map(|one| one.words())
         .collect();
     assert_eq!(grant.count, grant.mappings.len() as u64);
+    assert_eq!(grant.ranges, []);
     // The two other views agree.
     assert_eq!(replay(&mappings, &words).as_ref(), Some(&grant.mappings));
-    let mut pages = Pages::new(&SPACE, &mappings);
+    let mut pages = Pages::new(&SPACE, &mappings, &[]);
     pages.ask(request);
     assert_eq!(pages.mappings(), grant.mappings);
     assert_runs(&pages, &grant.mappings);
     Ok((words, grant.mappings))
 }
 
-/// From each page on, as much is alike by a look-up as by the pages.
+/// Each page shows the same by a look-up as by the pages, and as far.
 fn assert_runs(pages: &Pages, mappings: &[Mapping]) {
     let mut table: Vec<u64> = mappings.iter().flat_map(Mapping::words).collect();
     table.extend([0; MAPPING_WORDS]);
     for page in 0..pages.pages.len() {
         let address = pages.start + page as u64 * PAGE;
-        let seen = lookup(&SPACE, &table, mappings.len() as u64, address);
-        let bytes = seen.map(|seen| seen.bytes);
-        assert_eq!(bytes, Ok(pages.bytes_from(page)), "{address:#x}");
+        let count = mappings.len() as u64;
+        let seen = lookup(&SPACE, &List::NONE, &table, count, address);
+        assert_eq!(seen, Ok(pages.seen(page)), "{address:#x}");
     }
 }
 

@@ -1,6 +1,6 @@
-//! The model's look-ups in tables that were worked out by hand.
+//! The model's look-ups in tables that were worked out by hand, without sparse ranges.
 
-use waylluqen_model::{lookup, Refused, Seen, Shown, Space, PAGE};
+use waylluqen_model::{List, Refused, Seen, Shown, Space, PAGE};
 
 const LIMIT: u64 = 1 << 48;
 const LAST_PAGE: u64 = u64::MAX - PAGE + 1;
@@ -57,6 +57,10 @@ fn refused(number: u32) -> Answer {
 
 fn bad_mapping(place: u64) -> Answer {
     Err(Refused { number: 5, place })
+}
+
+fn lookup(space: &Space, table: &[u64], count: u64, address: u64) -> Answer {
+    waylluqen_model::lookup(space, &List::NONE, table, count, address)
 }
 
 /// The answer in a table that is full of these mappings.

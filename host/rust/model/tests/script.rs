@@ -1,7 +1,7 @@
 //! The model's output for scripts, worked out by hand.
 
 use std::fmt::Display;
-use waylluqen_model::{script, write, Record, Space, PAGE, SCRIPT_MAPPINGS};
+use waylluqen_model::{script, write, Record, Space, PAGE, SCRIPT_MAPPINGS, SCRIPT_RANGES};
 
 const MAP: u32 = 0;
 const UNMAP: u32 = 1;
@@ -24,6 +24,14 @@ fn map(address: u64, size: u64, object: u32, offset: u64) -> Vec<u8> {
 
 fn unmap(address: u64, size: u64) -> Vec<u8> {
     write::request(&Record::plain(UNMAP, 0, address, 0, size)).to_vec()
+}
+
+fn map_sparse(address: u64, size: u64) -> Vec<u8> {
+    write::request(&Record::sparse(MAP, address, size)).to_vec()
+}
+
+fn unmap_sparse(address: u64, size: u64) -> Vec<u8> {
+    write::request(&Record::sparse(UNMAP, address, size)).to_vec()
 }
 
 fn look_up(address: u64) -> Vec<u8> {
@@ -257,6 +265,128 @@ fn lookups_beside_a_cut() {
     );
 }
 
+/// A range with a mapping in it: no line but how many mappings there are, and what it shows.
+#[test]
+fn sparse_ranges() {
+    prints(
+        &[
+            plain_space(),
+            map_sparse(2 * PAGE, 4 * PAGE),
+            map(3 * PAGE, PAGE, 7, 0),
+            look_up(0),
+            look_up(2 * PAGE + 8),
+            look_up(3 * PAGE + 8),
+            look_up(4 * PAGE),
+            // One that touches it, and one that shares a page with it.
+            map_sparse(6 * PAGE, PAGE),
+            map_sparse(PAGE, 2 * PAGE),
+            look_up(4 * PAGE + 1),
+            look_up(6 * PAGE),
+        ],
+        &[
+            "space 256",
+            "granted 0 0",
+            "granted 1 1",
+            "map 12288 4096 7 0",
+            "at 0 none 8192",
+            "at 8200 sparse 4088",
+            "at 12296 7 8 4088",
+            "at 16384 sparse 8192",
+            "granted 0 1",
+            "refused 19",
+            "at 16385 sparse 8191",
+            "at 24576 sparse 4096",
+        ],
+    );
+}
+
+/// Not while something is mapped there, not by another size; then it goes.
+#[test]
+fn sparse_ranges_that_go() {
+    prints(
+        &[
+            plain_space(),
+            map_sparse(2 * PAGE, 4 * PAGE),
+            map(3 * PAGE, PAGE, 7, 0),
+            unmap_sparse(2 * PAGE, 4 * PAGE),
+            unmap(3 * PAGE, PAGE),
+            look_up(3 * PAGE),
+            unmap_sparse(2 * PAGE, 5 * PAGE),
+            unmap_sparse(2 * PAGE, 4 * PAGE),
+            look_up(3 * PAGE),
+        ],
+        &[
+            "space 256",
+            "granted 0 0",
+            "granted 1 1",
+            "map 12288 4096 7 0",
+            "refused 20",
+            "granted 1 0",
+            "unmap 12288 4096 7 0 keep 0",
+            "at 12288 sparse 12288",
+            "refused 20",
+            "granted 0 0",
+            "at 12288 none 53248",
+        ],
+    );
+}
+
+/// A granted space empties the list, a refused one does not.
+#[test]
+fn spaces_and_sparse_ranges() {
+    prints(
+        &[
+            plain_space(),
+            map_sparse(0, 2 * PAGE),
+            space(0, 0, 0, 0),
+            look_up(0),
+            plain_space(),
+            look_up(0),
+            unmap_sparse(0, 2 * PAGE),
+            map_sparse(0, PAGE),
+            look_up(0),
+        ],
+        &[
+            "space 256",
+            "granted 0 0",
+            "refused 1",
+            "at 0 sparse 8192",
+            "space 256",
+            "at 0 none 65536",
+            "refused 20",
+            "granted 0 0",
+            "at 0 sparse 4096",
+        ],
+    );
+}
+
+/// 64 ranges are all; room for mappings is another matter.
+#[test]
+fn full_list() {
+    let ranges = SCRIPT_RANGES as u64;
+    let mut records = vec![space(0, LIMIT, 0, 0), map(0, PAGE, 7, 0)];
+    records.extend(
+        (0..ranges)
+            .rev()
+            .map(|place| map_sparse(place * 2 * PAGE, PAGE)),
+    );
+    let before = script(&records.concat());
+    assert!(before.ends_with("granted 0 1\n"));
+    assert_eq!(before.lines().count(), 3 + SCRIPT_RANGES);
+    let prints_then = |record: Vec<u8>, lines: &str| {
+        let bytes = [records.concat(), record].concat();
+        assert_eq!(script(&bytes), format!("{before}{lines}"));
+    };
+    prints_then(map_sparse(PAGE, PAGE), "refused 11\n");
+    prints_then(map_sparse(PAGE, 2 * PAGE), "refused 19\n");
+    prints_then(unmap_sparse(0, PAGE), "refused 20\n");
+    prints_then(unmap_sparse(126 * PAGE, PAGE), "granted 0 1\n");
+    prints_then(look_up(126 * PAGE), "at 516096 sparse 4096\n");
+    prints_then(map(PAGE, PAGE, 8, 0), "granted 1 2\nmap 4096 4096 8 0\n");
+    let again = [unmap_sparse(4 * PAGE, PAGE), map_sparse(3 * PAGE, 3 * PAGE)];
+    prints_then(again.concat(), "granted 0 1\ngranted 0 1\n");
+}
+
 /// The record itself, then the space, then the rest.
 #[test]
 fn before_any_space() {
@@ -272,6 +402,7 @@ fn before_any_space() {
             with(|record| record.op = 2),
             with(|record| record.flags = 1),
             with(|record| record.pad = 1 << 31),
+            with(|record| record.flags = 256),
             with(|record| record.addr = 1),
             look_up(0),
             // Refused, so that there is still none.
@@ -284,6 +415,7 @@ fn before_any_space() {
             "refused 13",
             "refused 14",
             "refused 14",
+            "refused 1",
             "refused 1",
             "refused 1",
             "refused 1",
@@ -310,6 +442,10 @@ fn refused_requests() {
         (unmap(9 * PAGE, PAGE), 8),
         (map(0, PAGE, 0, 0), 9),
         (raw(Record { op: UNMAP, ..good }), 9),
+        (raw(Record { flags: 256, ..good }), 9),
+        (raw(Record { flags: 257, ..good }), 14),
+        (map_sparse(0, 9 * PAGE), 8),
+        (unmap_sparse(0, PAGE), 20),
         (map(0, 2 * PAGE, 7, LIMIT - PAGE), 10),
         (map(0, 2 * PAGE, 7, u64::MAX - PAGE + 1), 10),
     ];

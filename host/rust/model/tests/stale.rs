@@ -1,7 +1,7 @@
 //! Words behind the last mapping that are not zero, in tables that were worked out by hand.
 
 use waylluqen_model::bind::least_operation_words;
-use waylluqen_model::{bind, bind_record, lookup, Record, Refused, Request, Space};
+use waylluqen_model::{lookup, Grant, List, Record, Refused, Request, Space};
 use waylluqen_model::{MAP, MAPPING_WORDS, PAGE, UNMAP};
 
 /// 16,384 pages, of which the last is reserved.
@@ -35,7 +35,29 @@ fn page(op: u64) -> Request {
         size: PAGE,
         object: if op == MAP { 8 } else { 0 },
         offset: 0,
+        flags: 0,
     }
+}
+
+/// The calls without sparse ranges.
+fn bind(
+    space: &Space,
+    table: &[u64],
+    count: u64,
+    room: usize,
+    request: &Request,
+) -> Result<Grant, Refused> {
+    waylluqen_model::bind(space, &List::NONE, table, count, room, request)
+}
+
+fn bind_record(
+    space: &Space,
+    table: &[u64],
+    count: u64,
+    room: usize,
+    record: &[u8],
+) -> Result<Grant, Refused> {
+    waylluqen_model::bind_record(space, &List::NONE, table, count, room, record)
 }
 
 /// The number and the place of an answer; 0 and 0 if it is no refusal.
@@ -47,7 +69,7 @@ fn refusal<T>(answer: Result<T, Refused>) -> (u32, u64) {
 fn refusals(space: &Space, table: &[u64], count: u64) -> [(u32, u64); 6] {
     let room = room(table.len());
     let record = Record::plain(MAP as u32, 8, 0, 0, PAGE).encode();
-    let look = |address: u64| refusal(lookup(space, table, count, address));
+    let look = |address: u64| refusal(lookup(space, &List::NONE, table, count, address));
     [
         refusal(bind(space, table, count, room, &page(MAP))),
         refusal(bind(space, table, count, room, &page(UNMAP))),

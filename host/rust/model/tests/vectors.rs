@@ -41,6 +41,7 @@ fn fields_have_their_places() {
         size: 0x2726_2524_2322_2120,
         object: 0x0b0a_0908,
         offset: 0x1f1e_1d1c_1b1a_1918,
+        flags: 0,
     };
     let fields = Record {
         op: UNMAP,
@@ -53,6 +54,18 @@ fn fields_have_their_places() {
     };
     assert_eq!(decode(&record), Ok(request));
     assert_eq!(fields.encode(), record);
+    // The one flag, bit 8.
+    record[5] = 1;
+    let flagged = Record {
+        flags: 256,
+        ..fields
+    };
+    let request = Request {
+        flags: 256,
+        ..request
+    };
+    assert_eq!(decode(&record), Ok(request));
+    assert_eq!(flagged.encode(), record);
 }
 
 #[test]
@@ -71,6 +84,73 @@ fn records_are_refused() {
     assert_eq!(decode(&two_wrong.encode()), Err(13));
     assert_eq!(decode(&Record { flags: 1, ..good }.encode()), Err(14));
     assert_eq!(decode(&Record { pad: 1, ..good }.encode()), Err(14));
+}
+
+/// No flag but bit 8, alone, and no pad beside it.
+#[test]
+fn flags() {
+    let with = |op: u32, flags: u32, pad: u32| {
+        let record = Record {
+            flags,
+            pad,
+            ..Record::sparse(op, 0x10_0000, PAGE)
+        };
+        let by_record = decode(&record.encode()).err();
+        assert_eq!(answer(record), by_record.unwrap_or(0));
+        by_record
+    };
+    for op in [MAP, UNMAP] {
+        assert_eq!(with(op, 256, 0), None);
+        assert_eq!(with(op, 256, 1), Some(14));
+        assert_eq!(with(op, 256, 256), Some(14));
+        for flags in [1, 8, 128, 255, 257, 512, 768, 0x0100_0100, u32::MAX] {
+            assert_eq!(with(op, flags, 0), Some(14), "{flags}");
+        }
+        for bit in (0..32).filter(|&bit| bit != 8) {
+            assert_eq!(with(op, 1 << bit, 0), Some(14), "bit {bit}");
+            assert_eq!(with(op, 256 | 1 << bit, 0), Some(14), "bit {bit}");
+        }
+    }
+    // The op comes first.
+    assert_eq!(with(2, 256, 0), Some(13));
+    assert_eq!(with(256, 1, 1), Some(13));
+}
+
+/// With the flag no object and no offset, whatever the op; but an offset within a page is 6.
+#[test]
+fn sparse_requests() {
+    for op in [MAP, UNMAP] {
+        let good = Record::sparse(op, 0x10_0000, PAGE);
+        let with = |change: fn(&mut Record)| {
+            let mut record = good;
+            change(&mut record);
+            answer(record)
+        };
+        assert_eq!(answer(good), 0);
+        assert_eq!(with(|record| record.addr = 0x10_0001), 6);
+        assert_eq!(with(|record| record.range = 0), 6);
+        assert_eq!(with(|record| record.range = PAGE + 1), 6);
+        assert_eq!(with(|record| record.bo_offset = 1), 6);
+        assert_eq!(with(|record| record.bo_offset = PAGE - 1), 6);
+        assert_eq!(with(|record| record.addr = 0x20_0000), 7);
+        assert_eq!(with(|record| record.range = 0x10_1000), 7);
+        assert_eq!(with(|record| record.addr = LAST_PAGE), 7);
+        assert_eq!(with(|record| record.addr = 0x14_0000), 8);
+        assert_eq!(with(|record| record.range = 0x4_1000), 8);
+        assert_eq!(with(|record| record.range = 0x4_0000), 0);
+        assert_eq!(with(|record| record.handle = 1), 9);
+        assert_eq!(with(|record| record.handle = u32::MAX), 9);
+        assert_eq!(with(|record| record.bo_offset = PAGE), 9);
+        // Never 10, which is about what a mapping shows.
+        assert_eq!(with(|record| record.bo_offset = LIMIT), 9);
+        assert_eq!(with(|record| record.bo_offset = LAST_PAGE), 9);
+    }
+    let bad = space(1, 0, 0, 0);
+    let record = Record::sparse(MAP, 1, 0);
+    assert_eq!(check_request(&record.encode(), &bad), 1);
+    // All that there is in one range.
+    let whole = Record::sparse(MAP, 0, LIMIT);
+    assert_eq!(check_request(&whole.encode(), &space(0, LIMIT, 0, 0)), 0);
 }
 
 #[test]

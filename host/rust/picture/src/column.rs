@@ -6,7 +6,7 @@ use crate::flow;
 use crate::mapping::{Mapping, Range};
 use crate::number::hex;
 use crate::picture::{Drawing, COLUMN, LINE, TOP};
-use crate::svg::{width_in, DOTS, FINE, FONT, HATCHED, MIDDLE, SMALL, STRONG, WHITE};
+use crate::svg::{width_in, DASHED, DOTS, FINE, FONT, HATCHED, MIDDLE, SMALL, STRONG, WHITE};
 use stretch::{object_and_offset, stretches, Stretch, What};
 
 /// Below this height a mapping has no outline: that would hide its colour.
@@ -15,6 +15,9 @@ const THIN: f64 = 6.0;
 /// The heights of a zigzag with a label in it, and of one without.
 const STRIP: f64 = 18.0;
 const BARE: f64 = 8.0;
+
+/// As far a zigzag and a sparse range stand out on both sides, so that they are seen beside a mapping.
+pub const OUT: f64 = 3.0;
 
 /// Between a label and the sides of its column.
 const PADDING: f64 = 4.0;
@@ -118,7 +121,7 @@ impl Place {
         let is_there = |zigzag: &&f64| (*zigzag - middle).abs() < STRIP;
         let zigzag = self.zigzags.iter().find(is_there);
         let least = match self.stretch.what {
-            What::Gap => 2.0 * LINE,
+            What::Gap | What::Sparse => 2.0 * LINE,
             _ => LINE + PADDING,
         };
         let has_room = zigzag.is_some() || self.bottom - self.top >= least;
@@ -129,17 +132,19 @@ impl Place {
         })
     }
 
-    /// Whether it has no label in the column, and wants one: a thin gap is plain enough.
+    /// Whether it has no label in the column, and wants one: a thin gap is plain enough, sparse or
+    /// not.
     pub fn is_untold(&self) -> bool {
-        self.label.is_none() && self.stretch.what != What::Gap
+        let is_gap = matches!(self.stretch.what, What::Gap | What::Sparse);
+        self.label.is_none() && !is_gap
     }
 }
 
 impl Drawing<'_> {
-    /// A table's stretches where they stand.
-    pub fn places(&self, table: &[Mapping]) -> Vec<Place> {
+    /// The stretches of a table, with its sparse ranges, where they stand.
+    pub fn places(&self, table: &[Mapping], sparse: &[Range]) -> Vec<Place> {
         let left_out: Vec<Range> = self.layout.left_out().collect();
-        let stretches = stretches(&self.view.space, table, &left_out);
+        let stretches = stretches(&self.view.space, table, sparse, &left_out);
         let place = |stretch| Place::of(self, stretch);
         stretches.into_iter().filter_map(place).collect()
     }
@@ -166,12 +171,33 @@ impl Drawing<'_> {
         };
         let outline = if size.1 < THIN { "" } else { outline };
         match place.stretch.what {
-            What::Gap => (),
+            // A sparse range is drawn whole, under the mappings.
+            What::Gap | What::Sparse => (),
             What::Reservation => self.svg.rect(at, size, HATCHED),
             What::Mapping(mapping) => self.object(at, size, mapping.object, outline),
             What::LeftOut(_) => {
                 let style = format!(r##"fill="#cccccc" {FINE}"##);
                 self.svg.rect(at, size, &style);
+            }
+        }
+    }
+
+    /// A sparse range between two heights, with a dashed outline; a thin one is a dashed line.
+    pub fn sparse(&mut self, (left, right): (f64, f64), (top, bottom): (f64, f64)) {
+        if bottom - top < THIN {
+            let middle = (top + bottom) / 2.0;
+            self.svg.line(&[(left, middle), (right, middle)], DASHED);
+            return;
+        }
+        let style = format!("{WHITE} {DASHED}");
+        self.svg
+            .rect((left, top), (right - left, bottom - top), &style);
+    }
+
+    fn sparse_ranges(&mut self, x: f64, ranges: &[Range]) {
+        for range in ranges {
+            for part in self.layout.parts(range) {
+                self.sparse((x - OUT, x + COLUMN + OUT), part);
             }
         }
     }
@@ -194,7 +220,7 @@ impl Drawing<'_> {
         for &middle in &place.zigzags {
             let has_label = place.label.as_ref().is_some_and(|it| it.middle == middle);
             let half = if has_label { STRIP } else { BARE } / 2.0;
-            let sides = (x - 3.0, x + COLUMN + 3.0);
+            let sides = (x - OUT, x + COLUMN + OUT);
             self.zigzag(sides, (middle - half, middle + half));
         }
     }
@@ -237,11 +263,12 @@ impl Drawing<'_> {
         }
     }
 
-    pub fn column(&mut self, x: f64, heading: &str, places: &[Place]) {
+    pub fn column(&mut self, x: f64, heading: &str, places: &[Place], sparse: &[Range]) {
         self.heading(x + COLUMN / 2.0, heading);
         let size = (COLUMN, self.layout.bottom() - TOP);
         self.svg
             .rect((x, TOP), size, &format!(r##"fill="#f6f6f6" {FINE}"##));
+        self.sparse_ranges(x, sparse);
         // Those that an operation names lie over their neighbours' edges.
         for is_named in [false, true] {
             let these = places.iter().filter(|place| place.is_named == is_named);

@@ -6,6 +6,7 @@ use crate::number::count;
 use crate::picture::{Drawing, Sheet, COLUMN, LINE, TOP};
 use crate::place::{spread, Wanted};
 use crate::replay::{Grant, Operation};
+use crate::script::Sparse;
 use crate::svg::{width_of, FINE, HEADING, WHITE};
 use crate::text::{Kind, Side};
 
@@ -100,6 +101,18 @@ fn middle(layout: &Layout, operation: &Operation) -> f64 {
     span.map_or(TOP, |(top, bottom)| (top + bottom) / 2.0)
 }
 
+/// What stands over the boxes: how many operations there are, or what is done without one.
+fn heading(grant: &Grant) -> String {
+    let Sparse { before, after, .. } = &grant.sparse;
+    match grant.operations.len() {
+        0 if before.len() < after.len() => "a sparse range is added".to_string(),
+        0 if after.len() < before.len() => "a sparse range is removed".to_string(),
+        0 => "no operation".to_string(),
+        1 => "1 operation".to_string(),
+        more => format!("{more} operations, in order"),
+    }
+}
+
 impl Boxes {
     pub fn of(grant: &Grant, layout: &Layout) -> Boxes {
         let mut boxes: Vec<OneBox> = grant
@@ -120,11 +133,7 @@ impl Boxes {
         for (one, top) in boxes.iter_mut().zip(spread(&wanted, (TOP, bottom))) {
             one.top = top + BETWEEN / 2.0;
         }
-        let heading = match grant.operations.len() {
-            0 => "no operation".to_string(),
-            1 => "1 operation".to_string(),
-            more => format!("{more} operations, in order"),
-        };
+        let heading = heading(grant);
         let width = boxes
             .iter()
             .map(OneBox::width)

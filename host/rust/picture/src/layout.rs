@@ -6,7 +6,7 @@
 //! Of many mappings that stay as they are, those far from the request are left out together.
 
 use crate::mapping::{mapping_at, Mapping, Range, Space, PAGE};
-use crate::replay::Grant;
+use crate::replay::{Grant, Operation};
 use crate::text;
 
 /// Heights in pixels: of a page at most, of what the request changes at most, of the thinnest.
@@ -70,9 +70,11 @@ pub struct Layout {
 fn edges(space: &Space, grant: &Grant) -> Vec<u64> {
     let tables = grant.before.iter().chain(&grant.after);
     let named = grant.operations.iter().map(|operation| &operation.named);
+    let sparse = grant.sparse.before.iter().chain(&grant.sparse.after);
     let mut edges: Vec<u64> = tables
         .chain(named)
         .map(|mapping| mapping.range)
+        .chain(sparse.copied())
         .chain(space.reservation)
         .chain([space.range])
         .flat_map(|range| [range.start, range.end])
@@ -100,13 +102,16 @@ fn kind_at(space: &Space, grant: &Grant, address: u64) -> Kind {
     }
 }
 
-/// Whether an operation names the mapping here.
+/// Whether an operation names the mapping here, or it is in the sparse range that is asked for.
 fn is_touched(grant: &Grant, range: &Range) -> bool {
-    let names = |named: &Mapping| range.is_inside(&named.range);
-    grant
-        .operations
-        .iter()
-        .any(|operation| names(&operation.named))
+    let mut named = grant.operations.iter().map(|one| one.named.range);
+    named.any(|named| range.is_inside(&named)) || is_asked(grant, range)
+}
+
+/// Whether it is in the sparse range that the request adds or removes.
+fn is_asked(grant: &Grant, range: &Range) -> bool {
+    let changed = grant.sparse.changed;
+    changed.is_some_and(|changed| range.is_inside(&changed))
 }
 
 /// Whether the request has the range: it shows something else now, or a map has named it.
@@ -115,11 +120,11 @@ fn is_changed(grant: &Grant, range: &Range) -> bool {
         mapping_at(table, range.start)
             .map(|mapping| (mapping.object, mapping.offset_of(range.start)))
     };
-    let mut maps = grant
-        .operations
-        .iter()
-        .filter(|operation| operation.kind == text::Kind::Map);
-    shown(&grant.before) != shown(&grant.after) || maps.any(|map| range.is_inside(&map.named.range))
+    let is_map = |one: &&Operation| one.kind == text::Kind::Map;
+    let mut maps = grant.operations.iter().filter(is_map);
+    shown(&grant.before) != shown(&grant.after)
+        || is_asked(grant, range)
+        || maps.any(|map| range.is_inside(&map.named.range))
 }
 
 /// For each stretch, how many mappings are between it and the last one touched.
@@ -276,6 +281,20 @@ impl Layout {
         let broken = self.bands.iter().filter(|band| self.is_broken(band));
         let inside = broken.filter(|band| band.range.is_inside(range));
         inside.map(|band| band.top + band.height / 2.0).collect()
+    }
+
+    /// The heights of what is shown of a range between two edges: one part, and more where something
+    /// in it is left out.
+    pub fn parts(&self, range: &Range) -> Vec<(f64, f64)> {
+        let mut parts: Vec<(f64, f64)> = Vec::new();
+        let shown = self.bands.iter().filter(|band| band.kind != Kind::Folded);
+        for band in shown.filter(|band| band.range.is_inside(range)) {
+            match parts.last_mut() {
+                Some(last) if last.1 == band.top => last.1 = band.bottom(),
+                _ => parts.push((band.top, band.bottom())),
+            }
+        }
+        parts
     }
 
     /// The ranges of which nothing is shown.

@@ -5,6 +5,7 @@ use crate::layout::{Band, Kind, Layout};
 use crate::mapping::PAGE;
 use crate::number::{count, size};
 use crate::picture::{Drawing, Sheet, MARGIN};
+use crate::script::Sparse;
 use crate::svg::{width_of, FINE, HATCHED, STRONG};
 
 const ROW: f64 = 24.0;
@@ -19,6 +20,7 @@ const LEAST_BAR: f64 = 20.0;
 enum Mark {
     Object(u64),
     Reservation,
+    Sparse,
     Named,
     Zigzag,
     Hairline,
@@ -61,6 +63,8 @@ impl Drawing<'_> {
         let broken = layout.bands.iter().any(|band| layout.is_broken(band));
         let hairline = layout.bands.iter().any(is_hairline);
         let kept = operations.iter().any(|one| one.keep);
+        let Sparse { before, after, .. } = &self.view.grant.sparse;
+        let sparse = !before.is_empty() || !after.is_empty();
         let marks = [
             (others > 0, Mark::Note, others_told.as_str()),
             (
@@ -68,6 +72,7 @@ impl Drawing<'_> {
                 Mark::Reservation,
                 "reserved",
             ),
+            (sparse, Mark::Sparse, "sparse range"),
             (!operations.is_empty(), Mark::Named, "named by an operation"),
             (broken, Mark::Zigzag, "shortened, not to scale"),
             (hairline, Mark::Hairline, "thinner than its line"),
@@ -84,6 +89,10 @@ impl Drawing<'_> {
         match mark {
             Mark::Object(object) => self.object(corner, SWATCH, *object, FINE),
             Mark::Reservation => self.svg.rect(corner, SWATCH, HATCHED),
+            Mark::Sparse => {
+                let half = SWATCH.1 / 2.0;
+                self.sparse((x, x + SWATCH.0), (y - half, y + half));
+            }
             Mark::Named => self
                 .svg
                 .rect(corner, SWATCH, &format!(r#"fill="none" {STRONG}"#)),

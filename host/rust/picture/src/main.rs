@@ -13,6 +13,7 @@ mod picture;
 mod place;
 mod replay;
 mod saved;
+mod script;
 mod text;
 
 use mapping::Space;
@@ -25,7 +26,8 @@ use waylluqen_assemble::quote::named;
 use waylluqen_assemble::stream::{read, tell, write};
 use waylluqen_svg as svg;
 
-const USAGE: &str = "usage: picture [-h] [--space START SIZE [RESERVED-START RESERVED-SIZE]]
+const USAGE: &str =
+    "usage: picture [-h] [--space START SIZE [RESERVED-START RESERVED-SIZE] | --script SCRIPT]
                [--grant N | --table] [file]
 ";
 
@@ -44,6 +46,9 @@ options:
   --space START SIZE [RESERVED-START RESERVED-SIZE]
               the space's numbers, which vmbind does not print, decimal or with 0x; if there are
               none, the picture goes from the first mapping to the last
+  --script SCRIPT
+              the script whose answers the text has, as assemble makes it: it has the space's
+              numbers and the sparse ranges, which are drawn under the mappings
   --grant N   the request of the N-th granted line of the text, counted from 1; else the last
   --table     the file is a saved table: the lent words as bytes, 64-bit little-endian, four a
               mapping, 4096 mappings at most, up to the first whose size is 0
@@ -61,6 +66,7 @@ const BAD_USAGE: u8 = 2;
 struct Asked {
     help: bool,
     space: Option<Vec<u64>>,
+    script: Option<OsString>,
     grant: Option<usize>,
     table: bool,
     file: Option<OsString>,
@@ -92,6 +98,37 @@ fn take_number(words: &mut &[OsString]) -> Result<usize, String> {
     number.ok_or_else(|| "--grant wants a number from 1 on".to_string())
 }
 
+fn take_script(words: &mut &[OsString]) -> Result<OsString, String> {
+    let (script, others) = words.split_first().ok_or("--script wants a file")?;
+    *words = others;
+    Ok(script.clone())
+}
+
+/// What can't be asked together.
+fn check(asked: &Asked) -> Result<(), String> {
+    let is_input = |file: &Option<OsString>| file.as_ref().map_or(true, |file| file == "-");
+    let wrong = [
+        (
+            asked.table && asked.grant.is_some(),
+            "a table has no grants",
+        ),
+        (
+            asked.table && asked.script.is_some(),
+            "a table has no script",
+        ),
+        (
+            asked.space.is_some() && asked.script.is_some(),
+            "a script has the space's numbers",
+        ),
+        (
+            asked.script.is_some() && is_input(&asked.script) && is_input(&asked.file),
+            "script and text can't both be standard input",
+        ),
+    ];
+    let first = wrong.iter().find(|(is_wrong, _)| *is_wrong);
+    first.map_or(Ok(()), |(_, what)| Err(what.to_string()))
+}
+
 fn asked(mut words: &[OsString]) -> Result<Asked, String> {
     let mut asked = Asked {
         help: words.iter().any(|word| word == "-h" || word == "--help"),
@@ -103,19 +140,25 @@ fn asked(mut words: &[OsString]) -> Result<Asked, String> {
         match word.as_bytes() {
             b"--space" => asked.space = Some(take_numbers(&mut words)?),
             b"--grant" => asked.grant = Some(take_number(&mut words)?),
+            b"--script" => asked.script = Some(take_script(&mut words)?),
             b"--table" => asked.table = true,
             _ if !option && asked.file.is_none() => asked.file = Some(word.clone()),
             _ => return Err(format!("unrecognized arguments: {}", named(word))),
         }
     }
-    if asked.table && asked.grant.is_some() {
-        return Err("a table has no grants".to_string());
+    if !asked.help {
+        check(&asked)?;
     }
     Ok(asked)
 }
 
 /// The request that is asked for, and the picture's title.
-fn grant_of(asked: &Asked, name: &str, bytes: &[u8]) -> Result<(Grant, String), String> {
+fn grant_of(
+    asked: &Asked,
+    name: &str,
+    bytes: &[u8],
+    script: Option<&[u8]>,
+) -> Result<(Grant, String), String> {
     if asked.table {
         let after = saved::table(bytes).map_err(|what| format!("{name}: {what}"))?;
         let grant = Grant {
@@ -125,7 +168,7 @@ fn grant_of(asked: &Asked, name: &str, bytes: &[u8]) -> Result<(Grant, String), 
         };
         return Ok((grant, "The address space".to_string()));
     }
-    let replayed = replay::replay(bytes, asked.grant)
+    let replayed = replay::replay(bytes, script, asked.grant)
         .map_err(|bad| format!("{name}:{}: {}", bad.line, bad.what))?;
     let grants = replayed.grants;
     let grant = replayed.wanted.ok_or_else(|| match grants {
@@ -142,16 +185,23 @@ fn grant_of(asked: &Asked, name: &str, bytes: &[u8]) -> Result<(Grant, String), 
 fn space_of(asked: &Asked, grant: &Grant) -> Result<Space, String> {
     let named = grant.operations.iter().map(|operation| &operation.named);
     let mut mappings = grant.before.iter().chain(&grant.after).chain(named);
-    let Some(numbers) = &asked.space else {
-        return Space::around(mappings)
-            .ok_or("no mapping to show; --space gives a space".to_string());
+    let space = match (&asked.space, grant.space) {
+        (Some(numbers), _) => {
+            let reserved = match numbers[2..] {
+                [start, size] => (start, size),
+                _ => (0, 0),
+            };
+            Space::of(numbers[0], numbers[1], reserved)?
+        }
+        (None, Some(space)) => space,
+        (None, None) => {
+            let around = Space::around(mappings);
+            return around.ok_or("no mapping to show; --space gives a space".to_string());
+        }
     };
-    let reserved = match numbers[2..] {
-        [start, size] => (start, size),
-        _ => (0, 0),
-    };
-    let space = Space::of(numbers[0], numbers[1], reserved)?;
-    mappings.try_for_each(|mapping| space.check(mapping))?;
+    mappings.try_for_each(|mapping| space.check("mapping", &mapping.range))?;
+    let mut sparse = grant.sparse.before.iter().chain(&grant.sparse.after);
+    sparse.try_for_each(|range| space.check("sparse range", range))?;
     Ok(space)
 }
 
@@ -162,8 +212,12 @@ fn picture(asked: &Asked) -> Result<String, String> {
         false => replay::MOST_READ,
     };
     let bytes = read(&file, most)?;
+    let script = asked.script.as_ref();
+    let script = script
+        .map(|file| read(file, replay::MOST_READ))
+        .transpose()?;
     let name = named(&file);
-    let (grant, title) = grant_of(asked, &name, &bytes)?;
+    let (grant, title) = grant_of(asked, &name, &bytes, script.as_deref())?;
     let space = space_of(asked, &grant).map_err(|what| format!("{name}: {what}"))?;
     Ok(picture::draw(&View {
         title,
@@ -209,6 +263,10 @@ mod tests {
         let all = asked_of(&["--space", "0", "0x1_0000", "a b", "--grant", "2"]).unwrap();
         assert_eq!(all.space, Some(vec![0, 65536]));
         assert_eq!((all.grant, all.file), (Some(2), Some("a b".into())));
+        let script = asked_of(&["--script", "-", "a"]).unwrap();
+        assert_eq!(script.script, Some("-".into()));
+        let text = asked_of(&["--script", "a"]).unwrap();
+        assert_eq!((text.script, text.file), (Some("a".into()), None));
         let table = asked_of(&["--table", "-", "--space", "1", "2", "3", "4"]).unwrap();
         assert!(table.table);
         assert_eq!(
@@ -251,6 +309,24 @@ mod tests {
         ] {
             assert_eq!(asked_of(words), Err(told.to_string()));
         }
+    }
+
+    #[test]
+    fn a_script_goes_with_a_text_alone() {
+        let both = "script and text can't both be standard input";
+        for (words, told) in [
+            (&["--script"][..], "--script wants a file"),
+            (&["--table", "--script", "a"], "a table has no script"),
+            (
+                &["--script", "a", "--space", "0", "4096"],
+                "a script has the space's numbers",
+            ),
+            (&["--script", "-"], both),
+            (&["-", "--script", "-"], both),
+        ] {
+            assert_eq!(asked_of(words), Err(told.to_string()));
+        }
+        assert!(asked_of(&["--table", "--script", "a", "-h"]).unwrap().help);
     }
 
     #[test]
@@ -299,5 +375,27 @@ mod tests {
         grant.after = vec![mapping(4096)];
         let range = space_of(&Asked::default(), &grant).unwrap().range;
         assert_eq!((range.start, range.end), (4096, 12288));
+    }
+
+    #[test]
+    fn a_script_gives_the_space() {
+        let mut grant = Grant {
+            space: Space::of(0, 65536, (8192, 4096)).ok(),
+            ..Grant::default()
+        };
+        let range = |start, end| mapping::Range { start, end };
+        assert_eq!(
+            space_of(&Asked::default(), &grant),
+            Ok(grant.space.unwrap())
+        );
+        for (start, end, place) in [
+            (61440, 69632, "outside of the space"),
+            (4096, 12288, "in the reservation"),
+        ] {
+            grant.sparse.after = vec![range(start, end)];
+            let shown = range(start, end).shown();
+            let told = format!("the sparse range {shown} is {place}");
+            assert_eq!(space_of(&Asked::default(), &grant), Err(told));
+        }
     }
 }

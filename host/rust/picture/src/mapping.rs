@@ -17,7 +17,7 @@ pub struct Range {
 
 impl Range {
     /// A range of whole pages, one at least, that ends at or below the limit.
-    fn of_pages(start: u64, size: u64) -> Option<Range> {
+    pub fn of_pages(start: u64, size: u64) -> Option<Range> {
         let end = start.checked_add(size).filter(|&end| end <= LIMIT)?;
         let whole = start % PAGE == 0 && size % PAGE == 0 && size != 0;
         whole.then_some(Range { start, end })
@@ -111,16 +111,17 @@ impl Space {
         })
     }
 
-    pub fn check(&self, mapping: &Mapping) -> Result<(), String> {
-        let reserved = |range: Range| range.shares_byte_with(&mapping.range);
-        let place = if !mapping.range.is_inside(&self.range) {
+    /// Tells of a range, of what it is named, that it can't be in this space.
+    pub fn check(&self, what: &str, range: &Range) -> Result<(), String> {
+        let reserved = |reservation: Range| reservation.shares_byte_with(range);
+        let place = if !range.is_inside(&self.range) {
             "outside of the space"
         } else if self.reservation.is_some_and(reserved) {
             "in the reservation"
         } else {
             return Ok(());
         };
-        Err(format!("the mapping {} is {place}", mapping.range.shown()))
+        Err(format!("the {what} {} is {place}", range.shown()))
     }
 }
 
@@ -168,7 +169,7 @@ mod tests {
         let space = Space::of(PAGE, 4 * PAGE, (2 * PAGE, PAGE)).unwrap();
         let check = |page, pages| {
             let mapping = Mapping::of([page * PAGE, pages * PAGE, 7, 0]).unwrap();
-            space.check(&mapping)
+            space.check("mapping", &mapping.range)
         };
         assert_eq!(check(1, 1), Ok(()));
         assert_eq!(check(3, 2), Ok(()));

@@ -3,7 +3,7 @@
 mod beside;
 
 use crate::colours::Colours;
-use crate::column::Place;
+use crate::column::{Place, OUT};
 use crate::flow::{Boxes, GUTTER};
 use crate::layout::Layout;
 use crate::legend;
@@ -60,8 +60,14 @@ struct Column {
 /// which the space's own stay; a table alone has its labels on the right.
 fn columns(drawing: &Drawing) -> [Column; 2] {
     let (top, bottom) = (TOP, drawing.layout.bottom());
-    let Grant { before, after, .. } = &drawing.view.grant;
-    let [before, after] = [before, after].map(|table| drawing.places(table));
+    let Grant {
+        before,
+        after,
+        sparse,
+        ..
+    } = &drawing.view.grant;
+    let before = drawing.places(before, &sparse.before);
+    let after = drawing.places(after, &sparse.after);
     let left = match drawing.view.alone {
         true => Vec::new(),
         false => beside(&before, (top + LINE / 2.0, bottom - LINE / 2.0)),
@@ -84,7 +90,7 @@ impl Sheet {
             false => on_dots(start + boxes.width + GUTTER),
         };
         // The zigzags stand out a little.
-        let end = right + COLUMN + beside::width(&after.beside).max(3.0);
+        let end = right + COLUMN + beside::width(&after.beside).max(OUT);
         Sheet {
             before: left,
             boxes: start,
@@ -112,9 +118,13 @@ impl Drawing<'_> {
     fn rank(&self, edge: u64) -> u8 {
         let is_end = |range: &Range| range.start == edge || range.end == edge;
         let View { space, grant, .. } = self.view;
+        let named = || grant.operations.iter().map(|one| one.named.range);
         if is_end(&space.range) {
             0
-        } else if grant.operations.iter().any(|one| is_end(&one.named.range)) {
+        } else if named()
+            .chain(grant.sparse.changed)
+            .any(|range| is_end(&range))
+        {
             1
         } else if space.reservation.as_ref().is_some_and(is_end) {
             2
@@ -153,15 +163,17 @@ impl Drawing<'_> {
         let Grant {
             before: old,
             after: new,
+            sparse,
             ..
         } = &self.view.grant;
         let [were, are] = [old, new].map(|table| count(table.len(), "mapping"));
         if self.view.alone {
-            self.column(sheet.after, &are, &after.places);
+            self.column(sheet.after, &are, &after.places, &sparse.after);
         } else {
+            let (were, are) = (format!("before: {were}"), format!("after: {are}"));
             self.flows(sheet, boxes);
-            self.column(sheet.before, &format!("before: {were}"), &before.places);
-            self.column(sheet.after, &format!("after: {are}"), &after.places);
+            self.column(sheet.before, &were, &before.places, &sparse.before);
+            self.column(sheet.after, &are, &after.places, &sparse.after);
             self.boxes(sheet, boxes);
         }
         self.axis(sheet.before, before);
@@ -178,7 +190,14 @@ fn about(view: &View, boxes: &Boxes) -> String {
         return format!("{space} Mappings: {after}.");
     }
     let operations = boxes.told();
-    format!("{space} Mappings before: {before}. Operations: {operations}. Mappings after: {after}.")
+    let [sparse_before, sparse_after] = [&view.grant.sparse.before, &view.grant.sparse.after];
+    let sparse = match (sparse_before.len(), sparse_after.len()) {
+        (0, 0) => String::new(),
+        (before, after) => format!(" Sparse ranges before: {before}, after: {after}."),
+    };
+    format!(
+        "{space} Mappings before: {before}. Operations: {operations}. Mappings after: {after}.{sparse}"
+    )
 }
 
 /// The whole file.

@@ -1,7 +1,8 @@
 //! Carries vmbind's operations out, from its text, so that the tables around a request are known.
 
-use crate::mapping::Mapping;
+use crate::mapping::{Mapping, Range, Space};
 use crate::saved::MOST_MAPPINGS;
+use crate::script::{self, Record, Script, Sparse};
 use crate::text::{line, Kind, Line, Side};
 
 /// What is read of a text, in MiB: some million requests.
@@ -19,12 +20,15 @@ pub struct Operation {
     pub rests: Vec<(Side, Mapping)>,
 }
 
-/// A granted request: the mappings before it, its operations, and the mappings after them.
+/// A granted request: the mappings before it, its operations, and the mappings after them. If the
+/// script is there, also the space and the sparse ranges.
 #[derive(Clone, Debug, Default, PartialEq)]
 pub struct Grant {
     pub before: Vec<Mapping>,
     pub operations: Vec<Operation>,
     pub after: Vec<Mapping>,
+    pub space: Option<Space>,
+    pub sparse: Sparse,
 }
 
 /// The first line that is bad, and what is wrong with it.
@@ -45,10 +49,13 @@ struct Open {
 
 /// The text so far: how many requests it grants, and the one that is wanted.
 #[derive(Default)]
-pub struct Replay {
+pub struct Replay<'a> {
     pub grants: usize,
     pub wanted: Option<Grant>,
     table: Vec<Mapping>,
+    script: Option<Script<'a>>,
+    space: Option<Space>,
+    ranges: Vec<Range>,
     open: Option<Open>,
     stopped: bool,
 }
@@ -84,7 +91,7 @@ fn is_rest(old: &Mapping, side: Side, rest: &Mapping) -> bool {
         && rest.offset == old.offset_of(rest.range.start)
 }
 
-impl Replay {
+impl Replay<'_> {
     fn operation(&mut self, kind: Kind, named: Mapping, keep: bool) -> Result<(), String> {
         let is_told = |open: &&mut Open| (open.grant.operations.len() as u64) < open.operations;
         let open = self.open.as_mut().filter(is_told);
@@ -140,14 +147,62 @@ impl Replay {
         Ok(())
     }
 
+    /// The script's record that a line answers, if the script is there.
+    fn record(&mut self, line: &Line) -> Result<Option<Record>, String> {
+        let Some(script) = &mut self.script else {
+            return Ok(None);
+        };
+        let record = script
+            .next()
+            .ok_or("the script has ended before this line")?;
+        let fits = match (line, &record) {
+            (Line::Refused, record) => *record != Record::Broken,
+            (Line::Space, Record::Space(_))
+            | (Line::Granted(..), Record::Request(_))
+            | (Line::Seen, Record::Lookup)
+            | (Line::Stopped, Record::Broken) => true,
+            _ => false,
+        };
+        fits.then_some(Some(record))
+            .ok_or("is no answer to the record that the script has here".to_string())
+    }
+
+    /// What a granted request does to the sparse ranges.
+    fn change(&mut self, record: Option<Record>, operations: u64) -> Result<Sparse, String> {
+        let before = self.ranges.clone();
+        let mut changed = None;
+        if let Some(Record::Request(Some(change))) = record {
+            if operations != 0 {
+                return Err("a request for a sparse range has no operation".to_string());
+            }
+            changed = Some(script::change(&mut self.ranges, &change)?);
+        }
+        Ok(Sparse {
+            before,
+            after: self.ranges.clone(),
+            changed,
+        })
+    }
+
     /// Any line but an operation's.
-    fn answer(&mut self, number: usize, line: Line) {
+    fn answer(&mut self, number: usize, line: Line) -> Result<(), String> {
+        let record = self.record(&line)?;
         match line {
-            Line::Space => self.table.clear(),
+            Line::Space => {
+                self.table.clear();
+                self.ranges.clear();
+                if let Some(Record::Space(numbers)) = record {
+                    self.space = Some(script::space(numbers)?);
+                }
+            }
             Line::Stopped => self.stopped = true,
             Line::Granted(operations, count) => {
-                let mut grant = Grant::default();
-                grant.before.clone_from(&self.table);
+                let grant = Grant {
+                    before: self.table.clone(),
+                    space: self.space,
+                    sparse: self.change(record, operations)?,
+                    ..Grant::default()
+                };
                 self.open = Some(Open {
                     line: number,
                     operations,
@@ -157,6 +212,7 @@ impl Replay {
             }
             _ => (),
         }
+        Ok(())
     }
 }
 
@@ -170,9 +226,17 @@ fn lines_of(text: &[u8]) -> impl Iterator<Item = &[u8]> {
     })
 }
 
-/// Replays the whole text. `wanted` counts the grants from 1; `None` is the last one.
-pub fn replay(text: impl AsRef<[u8]>, wanted: Option<usize>) -> Result<Replay, BadLine> {
-    let mut replay = Replay::default();
+/// Replays the whole text. `wanted` counts the grants from 1; `None` is the last one. The script, if
+/// it is there, is the one whose answers the text has.
+pub fn replay<'a>(
+    text: impl AsRef<[u8]>,
+    script: Option<&'a [u8]>,
+    wanted: Option<usize>,
+) -> Result<Replay<'a>, BadLine> {
+    let mut replay = Replay {
+        script: script.map(Script::of),
+        ..Replay::default()
+    };
     for (at, words) in lines_of(text.as_ref()).enumerate() {
         let bad = |what| BadLine { line: at + 1, what };
         if replay.stopped {
@@ -185,7 +249,7 @@ pub fn replay(text: impl AsRef<[u8]>, wanted: Option<usize>) -> Result<Replay, B
             Line::Rest(side, rest) => replay.rest(side, rest).map_err(bad)?,
             answer => {
                 replay.close(wanted)?;
-                replay.answer(at + 1, answer);
+                replay.answer(at + 1, answer).map_err(bad)?;
             }
         }
     }

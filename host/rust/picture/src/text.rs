@@ -26,8 +26,9 @@ pub enum Line {
     Operation(Kind, Mapping, bool),
     /// What is left of a mapping that is remapped.
     Rest(Side, Mapping),
-    /// An answer that changes no mapping: a look-up's, or a refusal.
-    Unchanging,
+    /// What an address shows.
+    Seen,
+    Refused,
     /// The script is broken here, and vmbind stops.
     Stopped,
 }
@@ -74,11 +75,11 @@ pub fn line(bytes: &[u8]) -> Result<Line, String> {
         ["unmap", ref old @ .., "keep", mark] => cut(Kind::Unmap, old, mark),
         ["lower", ref rest @ ..] => Ok(Line::Rest(Side::Lower, mapping(rest)?)),
         ["upper", ref rest @ ..] => Ok(Line::Rest(Side::Upper, mapping(rest)?)),
-        ["at", address, "none", bytes] => only_numbers(&[address, bytes], Line::Unchanging),
+        ["at", address, "none" | "sparse", bytes] => only_numbers(&[address, bytes], Line::Seen),
         ["at", address, object, offset, bytes] => {
-            only_numbers(&[address, object, offset, bytes], Line::Unchanging)
+            only_numbers(&[address, object, offset, bytes], Line::Seen)
         }
-        ["refused", rule] => only_numbers(&[rule], Line::Unchanging),
+        ["refused", rule] => only_numbers(&[rule], Line::Refused),
         ["mark" | "cut", place] => only_numbers(&[place], Line::Stopped),
         _ => Err(no_line()),
     }
@@ -120,10 +121,11 @@ mod tests {
             "at 8200 7 8200 4088",
             "at 0 none 4096",
             "at 18446744073709551615 none 0",
-            "refused 8",
+            "at 8192 sparse 4096",
         ] {
-            assert_eq!(line(text), Ok(Line::Unchanging));
+            assert_eq!(line(text), Ok(Line::Seen));
         }
+        assert_eq!(line("refused 20"), Ok(Line::Refused));
         for text in ["mark 110", "cut 0"] {
             assert_eq!(line(text), Ok(Line::Stopped));
         }
@@ -143,6 +145,8 @@ mod tests {
             "remap 0 4096 7 0 0 keep 0",
             "at 0",
             "at 0 none",
+            "at 0 sparse",
+            "at 0 Sparse 4096",
             "at 8200 7 8200",
             "at 8200 7 8200 4088 ",
             "space",
@@ -160,6 +164,7 @@ mod tests {
             ("at 0 none ", ""),
             ("at 0 7 0 -", "-"),
             ("at 0 none 4096 1", "none"),
+            ("at 0 sparse 4096 1", "sparse"),
             ("refused ", ""),
             ("granted 1 18446744073709551616", "18446744073709551616"),
         ] {

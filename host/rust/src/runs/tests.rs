@@ -3,7 +3,7 @@
 extern crate std;
 
 use super::*;
-use crate::{Mapping, LIMIT, PAGE_SIZE};
+use crate::{Mapping, Ranges, Table, LIMIT, PAGE_SIZE};
 use std::vec::Vec;
 
 /// The common space: `[0x10_0000, 0x20_0000)` with a part of its middle reserved.
@@ -20,6 +20,17 @@ const WORDS: [u64; 20] = [
 ];
 const VIEW: View<'_> = View::new(&WORDS, 5);
 const EMPTY: View<'_> = View::new(&[0; 20], 0);
+
+/// One over the first mappings and behind them, with one that touches; one up to the reservation;
+/// one around the last mapping but one; one that the last mapping hides.
+const RANGES: [u64; 12] = [
+    0x10_1000, 0x3000, // over both, and a page more
+    0x10_4000, 0x1000, // touches
+    0x13_0000, 0x1_0000, // up to the reservation
+    0x18_f000, 0x5000, // around
+    0x1f_f000, 0x1000, // hidden
+    0, 0,
+];
 const ALL: Range<u64> = 0x10_0000..0x20_0000;
 
 /// No more than a walk should have, so that one without an end fails too.
@@ -30,6 +41,15 @@ fn runs(view: View<'_>, space: Space, range: Range<u64>) -> Vec<Run> {
 
 fn nothing(address: u64, bytes: u64) -> Run {
     let shown = Shown::Nothing;
+    Run {
+        address,
+        bytes,
+        shown,
+    }
+}
+
+fn sparse(address: u64, bytes: u64) -> Run {
+    let shown = Shown::Sparse;
     Run {
         address,
         bytes,
@@ -48,7 +68,7 @@ fn object(address: u64, bytes: u64, object: u64, offset: u64) -> Run {
 
 fn mapping(run: &Run) -> Option<Mapping> {
     match run.shown {
-        Shown::Nothing => None,
+        Shown::Nothing | Shown::Sparse => None,
         Shown::Object { object, offset } => {
             Some(Mapping::from([run.address, run.bytes, object, offset]))
         }
@@ -83,6 +103,36 @@ fn touching_neighbours_stay_two() {
         object(0x10_2000, 0x1000, 7, 0x5000),
     ];
     assert_eq!(runs(VIEW, SPACE, 0x10_0000..0x10_3000), expected);
+}
+
+#[test]
+fn sparse_ranges_are_runs_of_their_own_off_mappings() {
+    let view = VIEW.with_ranges(&RANGES, 5);
+    let expected = [
+        object(0x10_0000, 0x2000, 7, 0x3000),
+        object(0x10_2000, 0x1000, 7, 0x5000),
+        sparse(0x10_3000, 0x1000),
+        sparse(0x10_4000, 0x1000), // the one that touches
+        nothing(0x10_5000, 0x2_b000),
+        object(0x13_0000, 0x1000, 8, 0),
+        sparse(0x13_1000, 0xf000),
+        nothing(0x14_0000, 0x4_f000), // across the reservation
+        sparse(0x18_f000, 0x1000),
+        object(0x19_0000, 0x3000, 9, 0x1000),
+        sparse(0x19_3000, 0x1000),
+        nothing(0x19_4000, 0x6_b000),
+        object(0x1f_f000, 0x1000, 1, 0),
+    ];
+    assert_eq!(runs(view, SPACE, ALL), expected);
+    // A range cuts them too.
+    let expected = [sparse(0x10_3fff, 1), sparse(0x10_4000, 5)];
+    assert_eq!(runs(view, SPACE, 0x10_3fff..0x10_4005), expected);
+    // They are the table's too.
+    let (mut words, mut range_words) = (WORDS, RANGES);
+    let ranges = Ranges::with_count(&mut range_words, 5);
+    let table = Table::with_count(&mut words, 5).with_ranges(ranges);
+    assert!(table.runs(SPACE, ALL).eq(view.runs(SPACE, ALL)));
+    assert!(table.view().ranges().eq(table.ranges().iter()));
 }
 
 #[test]
@@ -129,6 +179,9 @@ fn a_refusal_is_the_last() {
         (damaged, SPACE, Refusal::BadMapping { place: 2 }),
         (View::new(&WORDS, 4), SPACE, Refusal::StaleWords),
         (View::new(&WORDS, 0), SPACE, Refusal::StaleWords),
+        (VIEW.with_ranges(&RANGES, 6), SPACE, Refusal::BadRanges),
+        (VIEW.with_ranges(&RANGES, 4), SPACE, Refusal::BadRanges),
+        (VIEW.with_ranges(&RANGES[1..], 5), SPACE, Refusal::BadRanges),
     ] {
         // Inside the space, outside it, and across its ends.
         for range in [ALL, 0..1, 0x10_0001..u64::MAX, u64::MAX - 1..u64::MAX] {

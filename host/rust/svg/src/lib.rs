@@ -21,6 +21,7 @@ pub const INK: &str = "#1a1a1a";
 pub const WHITE: &str = r##"fill="#ffffff""##;
 pub const HATCHED: &str = r##"fill="url(#hatch)" stroke="#666666""##;
 pub const FINE: &str = r##"stroke="#666666" stroke-width="0.8""##;
+pub const DASHED: &str = r##"stroke="#1a1a1a" stroke-width="1" stroke-dasharray="5 3""##;
 pub const STRONG: &str = r##"stroke="#1a1a1a" stroke-width="1.8""##;
 pub const MIDDLE: &str = r#"text-anchor="middle""#;
 pub const HEADING: &str = r#"text-anchor="middle" font-weight="bold""#;

@@ -53,6 +53,22 @@ fn requests() {
 }
 
 #[test]
+fn requests_for_sparse_ranges() {
+    assert_eq!(bytes("map-sparse 1 2"), bytes("RQ 0 256 0 0 1 0 2"));
+    assert_eq!(bytes("unmap-sparse 1 2"), bytes("RQ 1 256 0 0 1 0 2"));
+    let two = bytes("map-sparse 0x1000 0x1000\nmap-sparse 0x3000 0x1000");
+    assert_eq!(bytes("repeat 2: map-sparse 0x1000+0x2000*i 0x1000"), two);
+    for kind in ["map-sparse", "unmap-sparse"] {
+        for (numbers, count) in [("", 0), ("1", 1), ("1 2 3", 3), ("1 2 3 4", 4)] {
+            let wanted = format!("{kind} wants 2 numbers, not {count}: address size");
+            assert_eq!(told(&format!("{kind} {numbers}")), wanted);
+        }
+        let wanted = "size 18446744073709551616 does not fit in 64 bits";
+        assert_eq!(told(&format!("{kind} 0 18446744073709551616")), wanted);
+    }
+}
+
+#[test]
 fn a_look_up() {
     assert_eq!(bytes("LK 0x1_23"), b"LK\x23\x01\0\0\0\0\0\0");
     assert_eq!(bytes("\tLK 1\r\nLK 2"), bytes("LK 1\nLK\u{a0}2 # two\n"));
@@ -112,7 +128,17 @@ fn a_number_has_to_fit_its_field() {
 
 #[test]
 fn other_words_are_no_records() {
-    for word in ["XY", "sp", "Map", "BYTES", "LK:"] {
+    for word in [
+        "XY",
+        "sp",
+        "Map",
+        "BYTES",
+        "LK:",
+        "sparse",
+        "map_sparse",
+        "map-Sparse",
+        "unmap-sparse:",
+    ] {
         assert_eq!(told(word), format!("'{word}' is not a record"));
     }
     assert_eq!(told("\u{feff}LK"), r"'\u{feff}LK' is not a record");
@@ -139,6 +165,8 @@ fn negative_numbers() {
         "SP -1 4096",
         "map 0 0 -1 0",
         "unmap 0 -1",
+        "map-sparse -1 0",
+        "unmap-sparse 0 -1",
         "LK -1",
         "LK 1 2 -1",
     ] {

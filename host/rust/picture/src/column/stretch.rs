@@ -9,6 +9,8 @@ use crate::number::{count, hex, size};
 #[derive(Clone, Copy, Debug, PartialEq)]
 pub enum What {
     Gap,
+    /// What a sparse range has that is in no mapping.
+    Sparse,
     Reservation,
     Mapping(Mapping),
     /// As many mappings, and the gaps between them.
@@ -35,6 +37,7 @@ impl Stretch {
         let size = self.size();
         match self.what {
             What::Gap => format!("{size} free"),
+            What::Sparse => format!("{size} sparse"),
             What::Reservation => format!("reserved, {size}"),
             What::Mapping(mapping) => format!("{}, {size}", object_and_offset(&mapping)),
             What::LeftOut(mappings) => format!("{}, {size}", count(mappings, "mapping")),
@@ -42,9 +45,31 @@ impl Stretch {
     }
 }
 
+/// What no mapping has, from one address to another: cut at the edges of sparse ranges.
+fn gaps(sparse: &[Range], free: Range, out: &mut Vec<Stretch>) {
+    let mut start = free.start;
+    let mut put = |end: u64, what: What| {
+        let range = Range { start, end };
+        if start < end {
+            out.push(Stretch { range, what });
+            start = end;
+        }
+    };
+    for range in sparse.iter().filter(|range| range.shares_byte_with(&free)) {
+        put(range.start, What::Gap);
+        put(range.end.min(free.end), What::Sparse);
+    }
+    put(free.end, What::Gap);
+}
+
 /// The stretches of a column, one behind the other. Of the table's mappings those in the ranges
 /// `left_out` are put together.
-pub fn stretches(space: &Space, table: &[Mapping], left_out: &[Range]) -> Vec<Stretch> {
+pub fn stretches(
+    space: &Space,
+    table: &[Mapping],
+    sparse: &[Range],
+    left_out: &[Range],
+) -> Vec<Stretch> {
     let shown = table.iter().filter(|mapping| {
         let has_it = |range: &Range| mapping.range.is_inside(range);
         !left_out.iter().any(has_it)
@@ -60,20 +85,14 @@ pub fn stretches(space: &Space, table: &[Mapping], left_out: &[Range]) -> Vec<St
 
     let mut out = Vec::new();
     let mut start = space.range.start;
-    let gap = |start, end| Stretch {
-        range: Range { start, end },
-        what: What::Gap,
-    };
     for (range, what) in taken {
-        if start < range.start {
-            out.push(gap(start, range.start));
-        }
+        let end = range.start;
+        gaps(sparse, Range { start, end }, &mut out);
         out.push(Stretch { range, what });
         start = range.end;
     }
-    if start < space.range.end {
-        out.push(gap(start, space.range.end));
-    }
+    let end = space.range.end;
+    gaps(sparse, Range { start, end }, &mut out);
     out
 }
 

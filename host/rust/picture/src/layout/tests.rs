@@ -10,7 +10,7 @@ const EVERY_LINE: &str = include_str!("../../../../../examples/every-line.out");
 const FULL_TABLE: &str = include_str!("../../../../../examples/full-table.out");
 
 fn grant(text: &str, number: usize) -> Grant {
-    replay(text, Some(number)).unwrap().wanted.unwrap()
+    replay(text, None, Some(number)).unwrap().wanted.unwrap()
 }
 
 fn layout_around(grant: &Grant) -> Layout {
@@ -46,7 +46,7 @@ fn table(mappings: &[[u64; 4]]) -> Grant {
 /// Layouts of many kinds.
 fn layouts() -> Vec<Layout> {
     let mut out: Vec<Layout> = (1..=10).map(startup).collect();
-    for number in [1, 2, 9, 17, 18, 21, 23, 24, 280, 281] {
+    for number in [1, 2, 9, 17, 18, 21, 23, 24, 353, 354] {
         out.push(layout_around(&grant(EVERY_LINE, number)));
     }
     for number in [256, 257, 259, 260, 261] {
@@ -140,7 +140,7 @@ fn long_gaps_are_shortened_and_a_page_is_not() {
 
 #[test]
 fn mappings_far_from_the_change_are_left_out() {
-    let grant = grant(EVERY_LINE, 281);
+    let grant = grant(EVERY_LINE, 354);
     let layout = layout_around(&grant);
     let left_out: Vec<Range> = layout.left_out().collect();
     let [range] = left_out[..] else {
@@ -162,12 +162,62 @@ fn mappings_far_from_the_change_are_left_out() {
     let all = layout_around(&self::grant(FULL_TABLE, 261));
     let alone = layout_around(&Grant {
         before: grant.after.clone(),
-        operations: Vec::new(),
         after: grant.after,
+        ..Grant::default()
     });
     for layout in [all, alone] {
         assert_eq!(layout.left_out().count(), 0);
     }
+}
+
+#[test]
+fn the_edges_of_sparse_ranges_are_edges() {
+    let range = |first: u64, end: u64| Range {
+        start: first * PAGE,
+        end: end * PAGE,
+    };
+    let space = Space::of(0, 32 * PAGE, (0, 0)).unwrap();
+    let mut grant = table(&[[4 * PAGE, 4 * PAGE, 7, 0]]);
+    grant.sparse.before = vec![range(2, 6)];
+    grant.sparse.after = vec![range(2, 6), range(6, 20)];
+    grant.sparse.changed = Some(range(6, 20));
+    let layout = Layout::of(&space, &grant, TOP);
+    let starts = layout.bands.iter().map(|band| band.range.start / PAGE);
+    assert_eq!(starts.collect::<Vec<_>>(), [0, 2, 4, 6, 8, 20]);
+    // Where two ranges touch they are two.
+    let [first, second] = [range(2, 6), range(6, 20)].map(|one| layout.parts(&one));
+    assert_eq!((first.len(), second.len()), (1, 1));
+    assert_eq!(first[0].1, second[0].0);
+    assert_eq!(Some(first[0]), layout.span(&range(2, 6)));
+    // The scale goes by the range that is added.
+    let added = band_at(&layout, 8 * PAGE).range.size().min(2 * PAGE);
+    assert!(layout.scale * added as f64 <= MOST_OF_CHANGE);
+}
+
+#[test]
+fn of_a_sparse_range_what_is_left_out_is_not_shown() {
+    let mappings: Vec<[u64; 4]> = (0..40).map(|at| [2 * at * PAGE, PAGE, 7, 0]).collect();
+    let mut grant = table(&mappings);
+    let last = grant.after.pop().unwrap();
+    grant.operations.push(Operation {
+        kind: text::Kind::Unmap,
+        named: last,
+        keep: false,
+        rests: Vec::new(),
+    });
+    let all = Range {
+        start: 0,
+        end: 100 * PAGE,
+    };
+    (grant.sparse.before, grant.sparse.after) = (vec![all], vec![all]);
+    let layout = Layout::of(&Space::of(0, 100 * PAGE, (0, 0)).unwrap(), &grant, TOP);
+    let left_out: Vec<Range> = layout.left_out().collect();
+    let [(top, bottom)] = layout.parts(&all)[..] else {
+        panic!("the first mapping is left out too");
+    };
+    assert_eq!(left_out[0].start, 0);
+    assert_eq!(layout.span(&left_out[0]).unwrap().1, top);
+    assert_eq!(bottom, layout.bottom());
 }
 
 #[test]

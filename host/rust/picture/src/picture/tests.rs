@@ -13,10 +13,13 @@ use geometry::{column_rooms, covers, cross, disturbs, is_filled, lines, overlap,
 const WORKED: &str = include_str!("../../../../../examples/worked.out");
 const STARTUP: &str = include_str!("../../../../../examples/startup.out");
 const EVERY_LINE: &str = include_str!("../../../../../examples/every-line.out");
+const EVERY_LINE_TXT: &str = include_str!("../../../../../examples/every-line.txt");
 const FULL_TABLE: &str = include_str!("../../../../../examples/full-table.out");
+const TEXTURE: &str = include_str!("../../../../../examples/sparse-texture.out");
+const TEXTURE_TXT: &str = include_str!("../../../../../examples/sparse-texture.txt");
 
 fn view(text: &str, number: usize, space: Option<Space>) -> View {
-    let grant = replay(text, Some(number)).unwrap().wanted.unwrap();
+    let grant = replay(text, None, Some(number)).unwrap().wanted.unwrap();
     let around = Space::around(grant.before.iter().chain(&grant.after));
     View {
         title: format!("Granted request {number}"),
@@ -33,6 +36,27 @@ fn worked() -> View {
 fn startup(number: usize) -> View {
     let space = Space::of(0x10_0000, 0x1000_0000, (0x10_0000, 0x10_0000));
     view(STARTUP, number, Some(space.unwrap()))
+}
+
+/// A request of a text, with what its script tells.
+fn scripted(text: &str, script: &[u8], number: usize) -> View {
+    let replayed = replay(text, Some(script), Some(number)).unwrap();
+    let grant = replayed.wanted.unwrap();
+    View {
+        title: format!("Granted request {number}"),
+        space: grant.space.unwrap(),
+        grant,
+        alone: false,
+    }
+}
+
+fn assemble(text: &str) -> Vec<u8> {
+    waylluqen_assemble::text::assemble(text.as_bytes()).unwrap()
+}
+
+/// A request of the sparse texture.
+fn texture(number: usize) -> View {
+    scripted(TEXTURE, &assemble(TEXTURE_TXT), number)
 }
 
 fn table(mappings: impl Iterator<Item = [u64; 4]>) -> View {
@@ -96,9 +120,14 @@ fn nothing_is_outside_and_nothing_in_the_way_of_a_text() {
     (0..300).for_each(|seed| check(&generated::view(seed)));
     check(&worked());
     (1..=10).for_each(|number| check(&startup(number)));
-    // All but 5, which has no mapping, and those of a table that fills.
-    for number in (1..=4).chain(6..=40).chain([100, 280, 281]) {
+    // All but those that have no mapping, and most of a table that fills.
+    for number in (1..=4).chain(6..=31).chain(98..=110).chain([353, 354]) {
         check(&view(EVERY_LINE, number, None));
+    }
+    (1..=11).for_each(|number| check(&texture(number)));
+    let script = assemble(EVERY_LINE_TXT);
+    for number in (1..=97).chain([98, 120, 300, 353, 354]) {
+        check(&scripted(EVERY_LINE, &script, number));
     }
     for number in [1, 2, 12, 128, 255, 256, 257, 258, 259, 260, 261] {
         check(&view(FULL_TABLE, number, None));
@@ -171,6 +200,77 @@ fn the_reservation_is_hatched_in_both_columns_and_in_the_legend() {
     assert_eq!(count_of(&startup(7), "url(#hatch)"), 3);
     assert!(texts(&startup(7)).contains(&"reserved".to_string()));
     assert!(texts(&startup(7)).contains(&"reserved, 1 MiB".to_string()));
+}
+
+/// The rooms of the dashed rectangles, from the left and from above.
+fn dashed(view: &View) -> Vec<Room> {
+    let elements = elements(&draw(view));
+    let is_dashed = |one: &&Element| one.name == "rect" && one.get("stroke-dasharray").is_some();
+    let mut rooms: Vec<Room> = elements.iter().filter(is_dashed).filter_map(room).collect();
+    rooms.sort_by(|one, other| one.partial_cmp(other).unwrap());
+    rooms
+}
+
+#[test]
+fn a_sparse_range_is_dashed_where_it_is_and_in_the_legend() {
+    assert_eq!(dashed(&startup(7)).len(), 0);
+    assert!(!draw(&startup(7)).contains("parse"));
+    // It is added: it is in the column after the request alone.
+    let view = texture(1);
+    let columns = column_rooms(&elements(&draw(&view)));
+    let [legend, after] = dashed(&view)[..] else {
+        panic!("{:?}", dashed(&view));
+    };
+    let (top, bottom) = Layout::of(&view.space, &view.grant, TOP)
+        .span(&view.grant.sparse.after[0])
+        .unwrap();
+    assert_eq!(after[1..], [top, columns[1][2] + 3.0, bottom]);
+    assert_eq!(after[0], columns[1][0] - 3.0);
+    assert!(legend[1] > columns[0][3]);
+    let texts = texts(&view);
+    for words in ["a sparse range is added", "sparse range", "16 MiB sparse"] {
+        assert_eq!(
+            texts.iter().filter(|text| *text == words).count(),
+            1,
+            "{words}"
+        );
+    }
+    assert!(draw(&view).contains("Sparse ranges before: 0, after: 1."));
+}
+
+#[test]
+fn mappings_lie_over_their_sparse_range() {
+    // Two touching ranges in both columns, and a tile that is mapped.
+    let view = texture(3);
+    assert_eq!(dashed(&view).len(), 5);
+    let elements = elements(&draw(&view));
+    let is_range = |one: &Element| one.name == "rect" && one.get("stroke-dasharray").is_some();
+    let (column, tile) = (column_rooms(&elements)[1], view.grant.after[0]);
+    let (top, bottom) = Layout::of(&view.space, &view.grant, TOP)
+        .span(&tile.range)
+        .unwrap();
+    let is_tile = |one: &Element| {
+        let at = room(one).unwrap_or_default();
+        one.name == "rect" && at == [column[0], top, column[2], bottom]
+    };
+    let tile = elements.iter().position(is_tile).unwrap();
+    let around = |one: &Element| room(one).is_some_and(|at| at[1] <= top && bottom <= at[3]);
+    let range =
+        |one: &Element| is_range(one) && around(one) && room(one).unwrap()[0] > column[0] - 4.0;
+    let range = elements.iter().position(range).unwrap();
+    assert!(
+        range < tile,
+        "the range is drawn first, and seen on both sides"
+    );
+    assert!(texts(&view).contains(&"1 operation".to_string()));
+}
+
+#[test]
+fn a_sparse_range_that_goes() {
+    let view = texture(8);
+    assert_eq!(view.grant.sparse.before.len(), 2);
+    assert_eq!(dashed(&view).len(), 4);
+    assert!(texts(&view).contains(&"a sparse range is removed".to_string()));
 }
 
 #[test]

@@ -8,8 +8,10 @@ use std::os::unix::net::UnixStream;
 use std::process::{Child, Command};
 use std::thread;
 use std::time::Duration;
+use waylluqen::ffi;
 use waylluqen_compare::calls::{describe, lines};
-use waylluqen_model::{Request, MAPPING_WORDS, OPERATION_WORDS};
+use waylluqen_compare::library;
+use waylluqen_model::{MAPPING_WORDS, OPERATION_WORDS, RANGE_WORDS};
 
 /// Longer than any call takes, also where there is much else to do.
 const PATIENCE: Duration = Duration::from_secs(20);
@@ -108,13 +110,13 @@ fn compare_answers(answers: &mut impl Read, calls: &[Call]) -> Result<(), Failur
 fn asked_parts(asked: &Asked) -> (u64, [u64; 5], u64, &[u8]) {
     match asked {
         Asked::Numbers(request, _) => {
-            let &Request {
+            let ffi::Numbers {
                 op,
                 address,
                 size,
                 object,
                 offset,
-            } = request;
+            } = library::numbers(request);
             (0, [op, address, size, object, offset], 0, &[])
         }
         Asked::Record(record, _) => (1, [0; 5], 0, record),
@@ -135,6 +137,8 @@ fn put_call(bytes: &mut Vec<u8>, call: &Call) {
         space.size,
         space.reserved_start,
         space.reserved_size,
+        call.table.list.words.len() as u64,
+        call.table.list.count,
         call.table.words.len() as u64,
         call.table.count,
         call.operations.len() as u64,
@@ -144,6 +148,7 @@ fn put_call(bytes: &mut Vec<u8>, call: &Call) {
     put_words(bytes, &request);
     put_words(bytes, &[address]);
     if !call.goes_on {
+        put_words(bytes, &call.table.list.words);
         put_words(bytes, &call.table.words);
     }
     put_words(bytes, &call.operations);
@@ -163,6 +168,7 @@ fn read_outcome(answers: &mut impl Read, call: &Call) -> io::Result<Outcome> {
     answer.copy_from_slice(&words);
     Ok(Outcome {
         answer,
+        list: read_words(answers, call.table.list.words.len())?,
         table: read_words(answers, call.table.words.len())?,
         operations: read_words(answers, call.operations.len())?,
     })
@@ -189,8 +195,10 @@ fn report(place: usize, call: &Call) -> String {
 
 fn left(outcome: &Outcome) -> String {
     format!(
-        "library {:x?}\nthe table afterwards:\n{}\noperations, {} words:\n{}",
+        "library {:x?}\nthe list afterwards:\n{}\nthe table afterwards:\n{}\n\
+         operations, {} words:\n{}",
         outcome.answer,
+        lines(&outcome.list, RANGE_WORDS),
         lines(&outcome.table, MAPPING_WORDS),
         outcome.operations.len(),
         lines(&outcome.operations, OPERATION_WORDS)

@@ -5,7 +5,7 @@ use waylluqen_compare::library::{self, Bound, Looked};
 use waylluqen_compare::paging::assert_pages;
 use waylluqen_compare::tables::Table;
 use waylluqen_compare::walk::Walk;
-use waylluqen_model::{decode, Grant, Request, PAGE};
+use waylluqen_model::{Grant, Request, PAGE};
 
 /// The largest space that is followed page by page.
 const SMALL_SPACE: u64 = 16 * PAGE;
@@ -26,9 +26,10 @@ pub struct Call {
     /// The words that are lent for operations.
     pub operations: Vec<u64>,
     pub asked: Asked,
-    /// Whether the table is what the last call left, and is not lent anew.
+    /// Whether list and table are what the last call left, and are not lent anew.
     pub goes_on: bool,
-    /// Whether table, operations and record are lent at the back of their memory: a bit for each.
+    /// Whether table, operations, record and list are lent at the back of their memory: a bit for
+    /// each.
     pub at_back: u64,
 }
 
@@ -40,15 +41,14 @@ impl Call {
                 self.compare_bind(way, caller, Asking::Numbers(*request), model);
             }
             Asked::Record(record, model) => {
-                self.compare_bind(way, caller, Asking::Bytes(record), model);
+                self.compare_bind(way, caller, self.asking(way, record), model);
             }
             Asked::Lookup(address, model) => {
-                let Table { space, count, .. } = &self.table;
                 if !self.goes_on {
-                    caller.lend(&self.table.words);
+                    caller.lend(&self.table);
                     caller.stir(*address);
                 }
-                caller.look_up(way, space, *count, *address, *model);
+                caller.look_up(way, &self.table, *address, *model);
             }
             Asked::Check(record, _) => {
                 check(way, &self.table.space, record);
@@ -56,18 +56,22 @@ impl Call {
         }
     }
 
+    /// The record; or where it has the flag, by the types every other time, its numbers with that.
+    fn asking<'a>(&self, way: Way, record: &'a [u8]) -> Asking<'a> {
+        let bytes = Asking::Bytes(record);
+        let by_numbers = way == Way::Types && self.at_back.is_multiple_of(2);
+        let request = bytes.request().filter(|one| one.is_sparse() && by_numbers);
+        request.map_or(bytes, Asking::Numbers)
+    }
+
     fn compare_bind(&self, way: Way, caller: &mut Caller, asking: Asking, model: &Bound) {
         if !self.goes_on {
-            caller.lend(&self.table.words);
+            caller.lend(&self.table);
         }
         caller.lend_operations(&self.operations);
         caller.bind(way, &self.table, asking, model);
         if let (Ok(grant), Way::Types) = (model, way) {
-            let new = Table {
-                space: self.table.space,
-                words: caller.table().to_vec(),
-                count: grant.count,
-            };
+            let new = caller.left(self.table.space, grant);
             walk_over(&new);
             self.follow_pages(caller, asking, grant, &new);
         }
@@ -77,10 +81,7 @@ impl Call {
         if self.table.space.size > SMALL_SPACE {
             return;
         }
-        let request = match asking {
-            Asking::Numbers(request) => request,
-            Asking::Bytes(record) => decode(record).expect("it was granted"),
-        };
+        let request = asking.request().expect("it was granted");
         assert_pages(&self.table, new, &request, grant, caller.operations());
     }
 
@@ -88,14 +89,22 @@ impl Call {
     pub fn outcome(&self) -> Outcome {
         let mut outcome = Outcome {
             answer: [0; ANSWER_WORDS],
+            list: self.table.list.words.clone(),
             table: self.table.words.clone(),
             operations: self.operations.clone(),
         };
         match &self.asked {
             Asked::Numbers(_, model) | Asked::Record(_, model) => {
-                let words = library::bound_words(model, self.table.count);
-                let first = [words.refusal, words.place, words.operations, words.count];
+                let words = library::bound_words(model, &self.table);
+                let first = [
+                    words.refusal,
+                    words.place,
+                    words.operations,
+                    words.count,
+                    words.ranges,
+                ];
                 outcome.answer[..first.len()].copy_from_slice(&first);
+                library::change_list(&mut outcome.list, model);
                 library::change_table(&mut outcome.table, model);
                 library::write_operations(&mut outcome.operations, model);
             }
@@ -137,6 +146,7 @@ pub const ANSWER_WORDS: usize = 6;
 #[derive(PartialEq, Eq)]
 pub struct Outcome {
     pub answer: [u64; ANSWER_WORDS],
+    pub list: Vec<u64>,
     pub table: Vec<u64>,
     pub operations: Vec<u64>,
 }

@@ -1,9 +1,10 @@
 //! The calls of a round: tables and requests of all kinds, and a history on one table.
 
 use crate::call::{Asked, Call};
-use waylluqen_compare::calls::{model_answer, Asking};
+use waylluqen_compare::calls::{model_answer, model_look, Asking};
 use waylluqen_compare::library::{self, Bound};
-use waylluqen_compare::near::{disturb, narrow_record, near_record, widen};
+use waylluqen_compare::lists::List;
+use waylluqen_compare::near::{disturb, narrow_record, near_record, near_sparse_record, widen};
 use waylluqen_compare::numbers::{disturb_space, good_space, other64};
 use waylluqen_compare::requests::{disturb_record, good_record, place, LONGEST_RECORD};
 use waylluqen_compare::tables::{
@@ -11,9 +12,8 @@ use waylluqen_compare::tables::{
     plain_spaces, small_spaces, some_operation_words, Good, Table, MANY_MAPPINGS,
 };
 use waylluqen_model::random::Random;
-use waylluqen_model::table::mapping_at;
-use waylluqen_model::{check_request, lookup, space_holds};
-use waylluqen_model::{Record, Space, MAPPING_WORDS, MOST_MAPPINGS, PAGE, RECORD_BYTES};
+use waylluqen_model::{check_request, space_holds};
+use waylluqen_model::{Record, Space, MOST_MAPPINGS, MOST_RANGES, PAGE, RECORD_BYTES};
 
 /// Of some kinds more than one in a round, so that a history does not outweigh them.
 const TABLES: u64 = 4;
@@ -78,7 +78,7 @@ impl Round<'_> {
             operations,
             asked,
             goes_on,
-            at_back: self.random.below(8),
+            at_back: self.random.below(16),
         });
         bound
     }
@@ -92,17 +92,15 @@ impl Round<'_> {
                 Asked::Record(bytes, bound)
             }
             Question::Numbers(record) => {
-                let mut request = record.request();
+                // From C numbers have no flags.
+                let mut request = record.request().without_flags();
                 if self.random.once_in(32) {
                     widen(self.random, &mut request);
                 }
                 let bound = model_answer(table, operation_words, Asking::Numbers(request));
                 Asked::Numbers(request, bound)
             }
-            Question::Lookup(address) => {
-                let looked = lookup(&table.space, &table.words, table.count, *address);
-                Asked::Lookup(*address, looked)
-            }
+            Question::Lookup(address) => Asked::Lookup(*address, model_look(table, *address)),
         }
     }
 
@@ -190,17 +188,17 @@ impl Round<'_> {
         let mut buffer = [0; 8 + LONGEST_RECORD];
         let bytes = place(self.random, &bytes, &mut buffer).to_vec();
         let number = check_request(&bytes, &space);
-        let (words, count) = (Vec::new(), 0);
         self.calls.push(Call {
             table: Table {
                 space,
-                words,
-                count,
+                list: List::default(),
+                words: Vec::new(),
+                count: 0,
             },
             operations: Vec::new(),
             asked: Asked::Check(bytes, number),
             goes_on: false,
-            at_back: self.random.below(8),
+            at_back: self.random.below(16),
         });
     }
 
@@ -215,15 +213,13 @@ impl Round<'_> {
             false => plan(self.random),
         };
         for step in 0..steps {
-            let good = good_of(&table);
-            let record = next_record(self.random, &good, narrow);
+            let record = next_record(self.random, &table.good(), narrow);
             let question = match self.random.below(2) {
-                0 => Question::Numbers(record),
+                0 if record.flags == 0 => Question::Numbers(record),
                 _ => Question::Record(record),
             };
-            if let Some(Ok(grant)) = self.add(&table, step > 0, question) {
-                table.count = grant.count;
-                library::change_table(&mut table.words, &Ok(grant));
+            if let Some(bound) = self.add(&table, step > 0, question) {
+                library::change_lent(&mut table, &bound);
             }
             self.look_ups(&table);
         }
@@ -231,7 +227,7 @@ impl Round<'_> {
 
     /// Looks at a page of the table now and then, and in a small space at all pages.
     fn look_ups(&mut self, table: &Table) {
-        let good = good_of(table);
+        let good = table.good();
         if !good.mappings.is_empty() && self.random.once_in(2) {
             let address = any_address(self.random, &good);
             self.add(table, true, Question::Lookup(address));
@@ -272,7 +268,7 @@ fn large_plan(random: &mut Random) -> Plan {
     }
 }
 
-/// From an empty table.
+/// From an empty table and an empty list.
 fn plan(random: &mut Random) -> Plan {
     let (space, capacity) = match random.below(64) {
         0 => {
@@ -288,32 +284,25 @@ fn plan(random: &mut Random) -> Plan {
         true => capacity / 2 + random.below(2 * capacity),
         false => random.below(60),
     };
+    // Room for no range, for few, or for as many as there may be.
+    let ranges = random.pick(&[0, 1, 2, 3, 4, 8, MOST_RANGES]);
+    let empty = Good {
+        space,
+        list: List::of(&[], ranges),
+        mappings: Vec::new(),
+    };
     Plan {
-        table: Table {
-            space,
-            words: vec![0; capacity as usize * MAPPING_WORDS],
-            count: 0,
-        },
+        table: empty.table(capacity as usize),
         steps,
         narrow,
     }
 }
 
-/// The space and the mappings of a table that keeps its rules.
-fn good_of(table: &Table) -> Good {
-    let places = 0..table.count as usize;
-    Good {
-        space: table.space,
-        mappings: places
-            .map(|place| mapping_at(&table.words, place))
-            .collect(),
-    }
-}
-
-/// A request near what is mapped or anywhere, mostly a good one.
+/// A request near what is mapped or sparse or anywhere, mostly a good one.
 fn next_record(random: &mut Random, good: &Good, narrow: bool) -> Record {
     let mut record = match random.below(16) {
         0 => good_record(random, &good.space),
+        1..=3 => near_sparse_record(random, good),
         _ if good.mappings.is_empty() => good_record(random, &good.space),
         _ if narrow => narrow_record(random, good),
         _ => near_record(random, good),

@@ -2,10 +2,12 @@
 
 use crate::call::{Asked, Call};
 use waylluqen_compare::library::{Bound, ByNumber, Looked, NUMBERS};
+use waylluqen_compare::lists::{Faults, RULES};
 use waylluqen_compare::marks::Marks;
 use waylluqen_compare::sights::Sights;
 use waylluqen_compare::tables::{Table, MANY_MAPPINGS};
-use waylluqen_model::answer::{NO_ROOM, OK, STALE_WORDS, UNALIGNED};
+use waylluqen_model::answer::{BAD_RANGES, NO_ROOM, NO_SUCH_RANGE, OK, RANGE_OVERLAPS};
+use waylluqen_model::answer::{STALE_WORDS, UNALIGNED};
 use waylluqen_model::{MAPPING_WORDS, MOST_MAPPINGS};
 
 /// More words than these behind the last mapping are many.
@@ -30,6 +32,11 @@ pub struct Tally {
     stale: u64,
     one_stale: u64,
     long_stale: u64,
+    /// Grants that add a sparse range, and that remove one; the most ranges that one left.
+    flagged: [u64; 2],
+    most_ranges: usize,
+    /// Calls that were refused for their list.
+    faults: Faults,
     marks: Marks,
     sights: Sights,
     /// Those that a check does not refuse are at 0.
@@ -59,11 +66,11 @@ impl Tally {
             match &call.asked {
                 Asked::Numbers(_, bound) => {
                     self.by_numbers += 1;
-                    self.count_bound(bound);
+                    self.count_bound(&call.table, bound);
                 }
                 Asked::Record(_, bound) => {
                     self.by_record += 1;
-                    self.count_bound(bound);
+                    self.count_bound(&call.table, bound);
                 }
                 Asked::Lookup(address, looked) => {
                     self.lookups += 1;
@@ -85,6 +92,8 @@ impl Tally {
             }
             Some(UNALIGNED..=NO_ROOM) => self.count_good(&call.table),
             Some(STALE_WORDS) => self.count_stale(&call.table),
+            Some(BAD_RANGES) => self.faults.count(&call.table.space, &call.table.list),
+            Some(RANGE_OVERLAPS | NO_SUCH_RANGE) => self.count_good(&call.table),
             _ => {}
         }
     }
@@ -104,25 +113,24 @@ impl Tally {
         self.long_stale += u64::from(is_one && behind.len() > MANY_WORDS);
     }
 
-    fn count_bound(&mut self, bound: &Bound) {
+    fn count_bound(&mut self, table: &Table, bound: &Bound) {
         match bound {
             Ok(grant) => {
                 self.granted += 1;
                 self.largest = self.largest.max(grant.count);
                 self.marks.count(grant);
+                let (before, after) = (table.list.count as usize, grant.ranges.len());
+                self.flagged[0] += u64::from(before < after);
+                self.flagged[1] += u64::from(after < before);
+                self.most_ranges = self.most_ranges.max(after);
             }
             Err(refused) => self.refused[refused.number as usize] += 1,
         }
     }
 
     fn count_looked(&mut self, table: &Table, address: u64, looked: &Looked) {
-        let Table {
-            space,
-            words,
-            count,
-        } = table;
         match looked {
-            Ok(seen) => self.sights.count(space, words, *count, address, *seen),
+            Ok(seen) => self.sights.count(table, address, *seen),
             Err(refused) => self.refused[refused.number as usize] += 1,
         }
     }
@@ -149,9 +157,10 @@ impl Tally {
              record, {lookups} look-ups, {checks} checks\n\
              {granted} requests granted, on tables of up to {largest} mappings; {passed} checks \
              passed\n\
-             {}\n{}\n{}\n\
+             {}\n{}\n{}\n{}\n\
              refused {}",
             self.of_tables(),
+            self.of_lists(),
             self.of_marks(),
             self.of_sights(),
             refused.join(", ")
@@ -178,19 +187,22 @@ impl Tally {
         )
     }
 
-    fn of_sights(&self) -> String {
-        let Sights {
-            objects,
-            continued,
-            gaps,
-            last_gaps,
-            outside,
-        } = self.sights;
+    fn of_lists(&self) -> String {
+        let ([added, removed], most) = (self.flagged, self.most_ranges);
+        let rules = RULES.iter().zip(self.faults.alone);
+        let alone = rules.map(|(rule, times)| format!("{rule} {times}"));
+        let alone: Vec<String> = alone.collect();
         format!(
-            "{objects} addresses show an object, {continued} of them with a neighbour that goes on \
-             with the same bytes; {gaps} show nothing up to a mapping, {last_gaps} up to the \
-             space's end, {outside} are outside"
+            "{added} requests added a sparse range, up to {most} of them, and {removed} removed \
+             one\nlists refused for one rule alone: {}",
+            alone.join(", ")
         )
+    }
+
+    fn of_sights(&self) -> String {
+        let kinds = self.sights.kinds();
+        let kinds = kinds.map(|(kind, times)| format!("{kind} {times}"));
+        format!("addresses by what they show: {}", kinds.join(", "))
     }
 
     fn of_marks(&self) -> String {

@@ -3,6 +3,7 @@
 use super::View;
 use crate::mapping::{Mapping, Range, Space, PAGE};
 use crate::replay::{Grant, Operation};
+use crate::script::Sparse;
 use crate::text::{Kind, Side};
 
 /// Numbers that follow from a seed.
@@ -109,7 +110,44 @@ fn bind(before: Vec<Mapping>, range: Range, new: Option<Mapping>, keep: bool) ->
         before,
         operations,
         after,
+        ..Grant::default()
     }
+}
+
+/// Sparse ranges between some of the edges, off the reservation; those of a request for one of them
+/// differ by it.
+fn sparse(numbers: &mut Numbers, space: &Space, edges: &[u64], is_request: bool) -> Sparse {
+    let mut edges: Vec<u64> = edges.to_vec();
+    edges.sort_unstable();
+    edges.dedup();
+    edges.retain(|_| numbers.below(2) == 0);
+    let is_free = |range: &Range| {
+        !space
+            .reservation
+            .is_some_and(|one| one.shares_byte_with(range))
+    };
+    let between = edges.windows(2).map(|pair| Range {
+        start: pair[0],
+        end: pair[1],
+    });
+    let mut ranges: Vec<Range> = between.filter(is_free).collect();
+    ranges.retain(|_| numbers.below(2) == 0);
+    let mut sparse = Sparse {
+        before: ranges.clone(),
+        after: ranges,
+        changed: None,
+    };
+    if is_request && !sparse.after.is_empty() {
+        let place = numbers.below(sparse.after.len() as u64) as usize;
+        let one = numbers.one_of(&[true, false]);
+        let other = if one {
+            &mut sparse.before
+        } else {
+            &mut sparse.after
+        };
+        sparse.changed = Some(other.remove(place));
+    }
+    sparse
 }
 
 /// A range from or near one edge to another, outside of the reservation.
@@ -140,8 +178,12 @@ pub fn view(seed: u64) -> View {
     let before: Vec<Mapping> = ranges.map(|range| mapping(&mut numbers, range)).collect();
     let alone = numbers.below(8) == 0;
     let keep = numbers.below(2) == 0;
-    let grant = match request(&mut numbers, &space, &edges) {
-        Some(range) if !alone => {
+    // From a seed of their own, so that the rest is as without them; every other view has some.
+    let mut other = Numbers(!seed);
+    let has_sparse = seed % 2 == 1;
+    let is_sparse = has_sparse && other.below(3) == 0;
+    let mut grant = match request(&mut numbers, &space, &edges) {
+        Some(range) if !alone && !is_sparse => {
             let new = mapping(&mut numbers, range);
             let is_map = numbers.below(2) == 0;
             bind(before, range, is_map.then_some(new), keep)
@@ -152,6 +194,9 @@ pub fn view(seed: u64) -> View {
             ..Grant::default()
         },
     };
+    if has_sparse {
+        grant.sparse = sparse(&mut other, &space, &edges, is_sparse && !alone);
+    }
     View {
         title: format!("Seed {seed}"),
         space,
@@ -164,7 +209,7 @@ pub fn view(seed: u64) -> View {
 #[test]
 fn views_of_every_kind() {
     let views: Vec<View> = (0..400).map(view).collect();
-    let kinds: [fn(&View) -> bool; 10] = [
+    let kinds: [fn(&View) -> bool; 15] = [
         |view| view.alone,
         |view| view.space.reservation.is_some(),
         |view| view.grant.before.is_empty(),
@@ -175,15 +220,30 @@ fn views_of_every_kind() {
         |view| view.grant.after.iter().any(|one| one.object == 0xffff_ffff),
         |view| view.space.range.end == 1 << 48,
         |view| view.space.range.size() < 1 << 16,
+        |view| !view.grant.operations.is_empty() && !view.grant.sparse.after.is_empty(),
+        |view| view.grant.sparse.before.len() > 10,
+        |view| view.grant.sparse.before.len() < view.grant.sparse.after.len(),
+        |view| view.grant.sparse.before.len() > view.grant.sparse.after.len(),
+        |view| {
+            let touch = |pair: &[Range]| pair[0].end == pair[1].start;
+            view.grant.sparse.after.windows(2).any(touch)
+        },
     ];
     for (at, kind) in kinds.iter().enumerate() {
         assert!(views.iter().any(kind), "{at}");
     }
     for View { space, grant, .. } in &views {
         for table in [&grant.before, &grant.after] {
-            assert!(table.iter().all(|mapping| space.check(mapping).is_ok()));
+            let is_there = |mapping: &Mapping| space.check("mapping", &mapping.range).is_ok();
+            assert!(table.iter().all(is_there));
             let in_order = |pair: &[Mapping]| pair[0].range.end <= pair[1].range.start;
             assert!(table.windows(2).all(in_order));
+        }
+        for ranges in [&grant.sparse.before, &grant.sparse.after] {
+            assert!(ranges
+                .iter()
+                .all(|range| space.check("range", range).is_ok()));
+            assert!(ranges.windows(2).all(|pair| pair[0].end <= pair[1].start));
         }
     }
 }

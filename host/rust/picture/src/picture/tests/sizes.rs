@@ -2,12 +2,16 @@
 
 use super::generated;
 use super::*;
+use crate::layout::Band;
 use crate::mapping::Mapping;
 use crate::number::size;
 use crate::svg::FONT;
 
+/// What a column is of: a table and its sparse ranges.
+type Columns<'a> = (&'a [Mapping], &'a [Range]);
+
 /// The bytes of what a column has at a height.
-fn bytes_at(layout: &Layout, space: &Space, table: &[Mapping], y: f64) -> u64 {
+fn bytes_at(layout: &Layout, space: &Space, (table, sparse): Columns, y: f64) -> u64 {
     let mut taken: Vec<Range> = table.iter().map(|mapping| mapping.range).collect();
     taken.retain(|range| layout.span(range).is_some());
     taken.extend(space.reservation);
@@ -17,16 +21,28 @@ fn bytes_at(layout: &Layout, space: &Space, table: &[Mapping], y: f64) -> u64 {
     if let Some(range) = taken.iter().find(has_it) {
         return range.size();
     }
-    let above = taken.iter().filter(|range| span(range).1 <= y);
-    let below = taken.iter().filter(|range| span(range).0 >= y);
-    let start = above.map(|range| range.end).max();
-    let end = below.map(|range| range.start).min();
-    end.unwrap_or(space.range.end) - start.unwrap_or(space.range.start)
+    // Off all of these the edges of sparse ranges count too, as far as they are shown.
+    let top = |edge: u64| {
+        let is_there = |band: &&Band| band.range.start == edge;
+        layout.bands.iter().find(is_there).map(|band| band.top)
+    };
+    let taken = taken.iter().chain(sparse).chain([&space.range]);
+    let edges = taken.flat_map(|range| [range.start, range.end]);
+    let at = |edge: u64| match edge == space.range.end {
+        true => Some(layout.bottom()),
+        false => top(edge),
+    };
+    let shown: Vec<(u64, f64)> = edges.filter_map(|edge| Some((edge, at(edge)?))).collect();
+    let above = shown.iter().filter(|(_, top)| *top <= y);
+    let below = shown.iter().filter(|(_, top)| *top >= y);
+    let start = above.map(|(edge, _)| *edge).max().unwrap();
+    below.map(|(edge, _)| *edge).min().unwrap() - start
 }
 
 /// The size in a label, if there is one.
 fn told_size(text: &str) -> Option<&str> {
     let words = text.strip_suffix(" free").unwrap_or(text);
+    let words = words.strip_suffix(" sparse").unwrap_or(words);
     let size = words.rsplit(", ").next()?;
     let units = [" KiB", " MiB", " GiB", " TiB"];
     units
@@ -89,14 +105,20 @@ fn words_beside(space: &Space, table: &[Mapping]) -> Vec<String> {
 /// Checks a column, and gives how many sizes it tells, in it and beside it.
 fn check_column(view: &View, elements: &[Element], which: Which) -> usize {
     let layout = Layout::of(&view.space, &view.grant, TOP);
-    let (table, anchor) = match which {
-        Before => (&view.grant.before, Some("end")),
-        After => (&view.grant.after, None),
+    let Grant {
+        before,
+        after,
+        sparse,
+        ..
+    } = &view.grant;
+    let (table, sparse, anchor) = match which {
+        Before => (before, &sparse.before, Some("end")),
+        After => (after, &sparse.after, None),
     };
     let mut told = 0;
     for (y, text) in column_texts(elements, which) {
         if let Some(shown) = told_size(&text) {
-            let bytes = bytes_at(&layout, &view.space, table, y);
+            let bytes = bytes_at(&layout, &view.space, (table, sparse), y);
             assert_eq!(shown, size(bytes), "{}: '{text}'", view.title);
             told += 1;
         }
@@ -127,7 +149,11 @@ fn check_sizes(view: &View) {
 fn every_size_told_is_of_what_is_there() {
     (0..600).for_each(|seed| check_sizes(&generated::view(seed)));
     (1..=10).for_each(|number| check_sizes(&startup(number)));
-    (6..=40).for_each(|number| check_sizes(&view(EVERY_LINE, number, None)));
+    let some = (6..=31).chain(98..=110);
+    some.for_each(|number| check_sizes(&view(EVERY_LINE, number, None)));
+    (1..=11).for_each(|number| check_sizes(&texture(number)));
+    let script = assemble(EVERY_LINE_TXT);
+    (25..=97).for_each(|number| check_sizes(&scripted(EVERY_LINE, &script, number)));
     (255..=261).for_each(|number| check_sizes(&view(FULL_TABLE, number, None)));
 }
 
