@@ -1,11 +1,13 @@
 -- Rows that pass leave a table and a list that can be searched and changed.
 -- Assumes nothing.
-use mathlib.Core.Path.{_≡_, refl, sym, _∙_}
-use mathlib.Core.Bool.{true}
+use mathlib.Core.Path.{_≡_, refl, sym, subst, _∙_}
+use mathlib.Core.Bool.{true, _&&_}
 use mathlib.Core.List.{List, [], _∷_}
 use Prim.Native.Nat.{ℕ, zero, suc, _+_, _≤_}
 use native.Mathlib.Omega.{arith}
-use lib.Dec.{eqb→eq}
+use lib.Dec.{T, eqb, eqb→eq}
+use lib.ListN.{length}
+use borrow.Author.Tests.{eq-eqb}
 use Rattle.model.specs.declared.Request.{Request}
 use Rattle.model.specs.declared.Space.{Space}
 use Rattle.model.specs.Rows.{all, Row, Reply, answered, verdict}
@@ -13,14 +15,15 @@ use Rattle.model.specs.Rules.{limit, spaceTests, objectTests, offsetTests, requ
 use Rattle.model.specs.Table.{mappings, operationsRow, tableRows}
 use Rattle.model.specs.Ranges.{listRow}
 use Rattle.model.specs.Calls.{Lent, lentRows}
-use Rattle.model.proofs.Tests.{tests, Alls, all-true}
-use Rattle.model.proofs.Rows.{passed-split, answered-passed, andThen, decide-append}
+use Rattle.model.proofs.Tests.{tests, Alls, and-both, all-facts, all-true}
+use Rattle.model.proofs.Rows.{passed-split, answered-passed, passes, andThen, decide-append}
 use Rattle.model.proofs.Groups.{LentPassed, lent-passed, RequestPassed, request-passed}
 use Rattle.model.proofs.Store.{length-mappings}
 use Rattle.model.proofs.Zeros.{stale-zeros}
 use Rattle.model.proofs.Operations.{operations-most}
 use Rattle.table.specs.Places.{ValidIn}
-use Rattle.ranges.specs.Lists.{ValidList}
+use Rattle.ranges.specs.Lists.{lentList, ValidList}
+use Rattle.ranges.proofs.Fits.{empty-decides}
 use Rattle.change.specs.Change.{Ready}
 use Rattle.bind.specs.Bound.{checkedRows, Relistable}
 
@@ -32,6 +35,13 @@ offset-most r p = go (r .op) (r .op + r .flags) (omega arith) (p .object) (p .of
     go zero n l h k = omega (tests, k)
     go (suc op) zero l h k = absurd (omega arith)
     go (suc op) (suc n) l h k = omega (tests, h)
+
+-- no list keeps the rules
+pub none-listed : (ws : List ℕ) (n : ℕ) → eqb (length ws) 0 && eqb n 0 ≡ true → (s : Space) → answered tt ≡ verdict (listRow s (lentList ws n) ∷ [])
+none-listed ws n e s =
+    let k = and-both (eqb (length ws) 0) (eqb n 0) (subst T (sym e) tt) in
+    let q : all (listRow s (lentList ws n) .tests) ≡ true = sym (empty-decides s ws n (eqb→eq _ 0 (k .0))) ∙ eq-eqb n 0 (eqb→eq n 0 (k .1)) in
+    sym (passes (listRow s (lentList ws n) ∷ []) tt (all-facts (listRow s (lentList ws n) .tests) q, tt))
 
 module _ (s : Space) (l : Lent) where
   valid-by : {between : List Row} → LentPassed s between l → ValidIn s (l .table .words) (l .table .count)

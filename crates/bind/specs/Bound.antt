@@ -1,14 +1,14 @@
 -- What is lent, in slices; and a request whose form is right, by numbers or decoded: what is left of the public call.
 -- Assumes nothing.
 use mathlib.Core.List.{List, [], _∷_, _++_}
-use Prim.Native.Nat.{ℕ, _≤_, _<_}
+use Prim.Native.Nat.{ℕ, zero, suc, _≤_, _<_}
 use lib.ListN.{length}
 use Rattle.model.specs.declared.Request.{Request}
 use Rattle.model.specs.declared.Space.{Space}
-use Rattle.model.specs.Rows.{Row, decide}
+use Rattle.model.specs.Rows.{Row, Reply, refused, answered, decide}
 use Rattle.model.specs.Rules.{limit, stop, requestRows}
 use Rattle.model.specs.Table.{operationsRow}
-use Rattle.model.specs.Calls.{Asking, numbers, Lent, lentRows, Purpose, purpose, lastRows, grantFor, Outcome, outcomeFor}
+use Rattle.model.specs.Calls.{Asking, numbers, Lent, lentRows, Purpose, purpose, lastRows, grantFor, Outcome, untouched, outcomeFor}
 use Rattle.table.specs.Places.{lent, Valid}
 use Rattle.ranges.specs.Lists.{lentList, ValidList}
 use Rattle.bind.specs.declared.Numbers.{Numbers}
@@ -33,6 +33,20 @@ decided for r l os = outcomeFor (decide (lastRows for r l) (grantFor for r l)) f
 unfoldable pub bound : Space → Lent → List ℕ → Request → Outcome
 bound s l os r =
     outcomeFor (decide (checkedRows s l (length os) r ++ lastRows (purpose r) r l) (grantFor (purpose r) r l)) (purpose r) r l os
+
+-- a reply's refusal, or what comes after its answer
+abbrev pub then : {A : Type 0} → Reply A → Lent → List ℕ → (A → Outcome) → Outcome
+then (refused n p) l os f = untouched (refused n p) l os
+then (answered a) l os f = f a
+
+-- of a request with the flag, all but 19, 20 and 11, by the flags: where they passed, a grant that changes nothing
+abbrev pub partlyFor : ℕ → Space → Lent → List ℕ → Request → Outcome
+partlyFor zero s l os r = bound s l os r
+partlyFor (suc f) s l os r =
+    untouched (decide (checkedRows s l (length os) r) (record { operations = 0; count = l .table .count; ranges = l .ranges .count })) l os
+
+abbrev pub partly : Space → Lent → List ℕ → Request → Outcome
+partly s l os r = partlyFor (r .flags) s l os r
 
 -- what changing the list asks for: a table and a list that passed their checks, and a range in order
 pub record Relistable (r : Request) (l : Lent) : Type 0 where

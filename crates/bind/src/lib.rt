@@ -15,15 +15,17 @@ ghost use mathlib.Core.Bool.{true};
 ghost use mathlib.Core.List.{List, [], _∷_};
 ghost use Prim.Native.Nat.{ℕ, _<_};
 ghost use lib.ListN.{length};
-ghost use Rattle.model.specs.Rows.{all, verdict};
+ghost use Rattle.model.specs.declared.Space.{Space};
+ghost use Rattle.model.specs.Rows.{all, answered, verdict};
 ghost use Rattle.model.specs.Rules.{spaceTests};
 ghost use Rattle.model.specs.Table.{operationsRow, tableRows};
 ghost use Rattle.model.specs.Ranges.{listRow};
-ghost use Rattle.model.specs.Calls.{bytes, lentRows, cuts, adds, removes, bind, lookup, verdictReply, answerReply, foundReply};
+ghost use Rattle.model.specs.Calls.{bytes, lentRows, cuts, adds, removes, purpose, bind, lookup, verdictReply, answerReply, foundReply};
+ghost use Rattle.model.specs.Demand3.{IsGrant};
 ghost use Rattle.table.specs.Places.{lent};
 ghost use Rattle.ranges.specs.Lists.{lentList};
 ghost use Rattle.change.specs.Change.{Ready};
-ghost use Rattle.bind.specs.Bound.{lentWords, numbersOf, checkedRows, Relistable, decided, bound};
+ghost use Rattle.bind.specs.Bound.{lentWords, numbersOf, checkedRows, Relistable, then, decided, partly};
 
 // A request by its numbers: op 0 maps, op 1 unmaps, another is refused.
 #[repr(C)]
@@ -44,6 +46,13 @@ fn list_verdict(s: Space, ranges: &[u64], range_count: usize) -> Verdict
         return Verdict::Refuse(Refusal::BadRanges);
     }
     Verdict::Pass
+}
+
+// No list is lent, which keeps the rules: a call with none is to be as quick as without lists.
+fn is_none(ranges: &[u64], range_count: usize) -> bool
+    ensures { λ b. ⌜ (b ≡ true → (s : Space) → answered tt ≡ verdict (listRow s (lentList (now (ranges .entry)) «range_count») ∷ [])) ⌝ }
+{
+    (ranges.len() == 0) & (range_count == 0)
 }
 
 // Rows 1, 2, 4, 5 and 17: a look-up's, of the table alone.
@@ -68,7 +77,12 @@ fn lookup_verdict(
 {
     match lookup_table_verdict(s, table, count) {
         Verdict::Refuse(w) => Verdict::Refuse(w),
-        Verdict::Pass => list_verdict(s, ranges, range_count),
+        Verdict::Pass => {
+            if is_none(ranges, range_count) {
+                return Verdict::Pass;
+            }
+            list_verdict(s, ranges, range_count)
+        }
     }
 }
 
@@ -122,7 +136,12 @@ fn lent_verdict(
 {
     match table_verdict(s, table, count, operation_words) {
         Verdict::Refuse(w) => Verdict::Refuse(w),
-        Verdict::Pass => list_verdict(s, ranges, range_count),
+        Verdict::Pass => {
+            if is_none(ranges, range_count) {
+                return Verdict::Pass;
+            }
+            list_verdict(s, ranges, range_count)
+        }
     }
 }
 
@@ -219,8 +238,9 @@ fn remove_range(
     }
 }
 
-// A request whose form is right, and that has no flag. The list is only read.
-fn bind_plain(
+// A request whose form is right: rows 1 to 5, 17, 18 and 6 to 10. One without the flag goes on to row 11; of one with it
+// the grant says that these passed, and what is left is the list's. The list is only read.
+fn bind_request(
     s: Space,
     ranges: &[u64],
     range_count: usize,
@@ -229,31 +249,38 @@ fn bind_plain(
     operations: &mut [u64],
     r: Request,
 ) -> Answer
-    requires { ⌜ r .flags ≡ 0 ⌝ }
-    ensures { λ a. ⌜ bound s (lentWords (now (ranges .entry)) «range_count» (now (table .entry)) count) (now (operations .entry)) r ≡ record { answer = answerReply a; table = now (table .exit); ranges = now (ranges .entry); operations = now (operations .exit) } ⌝ }
-{
-    match bind_verdict(s, ranges, range_count, table, count, operations.len(), r) {
-        Verdict::Refuse(w) => Answer::Refused(w),
-        Verdict::Pass => cut_table(r, table, count, operations, range_count),
-    }
-}
-
-// One whose form is right, and that has the flag. The table and the operation words are only read.
-fn bind_flagged(
-    s: Space,
-    ranges: &mut [u64],
-    range_count: usize,
-    table: &[u64],
-    count: usize,
-    operations: &[u64],
-    r: Request,
-) -> Answer
-    requires { ⌜ 0 < r .flags ⌝ }
-    ensures { λ a. ⌜ bound s (lentWords (now (ranges .entry)) «range_count» (now (table .entry)) count) (now (operations .entry)) r ≡ record { answer = answerReply a; table = now (table .entry); ranges = now (ranges .exit); operations = now (operations .entry) } ⌝ }
+    ensures { λ a. ⌜ partly s (lentWords (now (ranges .entry)) «range_count» (now (table .entry)) count) (now (operations .entry)) r ≡ record { answer = answerReply a; table = now (table .exit); ranges = now (ranges .entry); operations = now (operations .exit) } ⌝ }
 {
     match bind_verdict(s, ranges, range_count, table, count, operations.len(), r) {
         Verdict::Refuse(w) => Answer::Refused(w),
         Verdict::Pass => {
+            if r.flags == 0 {
+                return cut_table(r, table, count, operations, range_count);
+            }
+            Answer::Granted(Grant {
+                operations: 0,
+                count: count,
+                ranges: range_count,
+            })
+        }
+    }
+}
+
+// One with the flag, behind those rows: rows 19, 20 and 11, and the list.
+fn relist(
+    passed: Answer,
+    r: Request,
+    ranges: &mut [u64],
+    range_count: usize,
+    table: &[u64],
+    count: usize,
+) -> Answer
+    requires { ⌜ (0 < r .flags) × (IsGrant (answerReply passed) → Relistable r (lentWords (now ranges) «range_count» (now table) count)) ⌝ }
+    ensures { λ a. ⌜ ((os : List ℕ) → then (answerReply passed) (lentWords (now (ranges .entry)) «range_count» (now (table .entry)) count) os (λ _. decided (purpose r) r (lentWords (now (ranges .entry)) «range_count» (now (table .entry)) count) os) ≡ record { answer = answerReply a; table = now (table .entry); ranges = now (ranges .exit); operations = os }) ⌝ }
+{
+    match passed {
+        Answer::Refused(w) => Answer::Refused(w),
+        Answer::Granted(_) => {
             if r.op == 0 {
                 return add_range(r, ranges, range_count, table, count);
             }
@@ -286,7 +313,7 @@ pub fn bind(
     };
     match rules::form_verdict(r, rules::SPARSE) {
         Verdict::Refuse(w) => Answer::Refused(w),
-        Verdict::Pass => bind_plain(s, ranges, range_count, table, count, operations, r),
+        Verdict::Pass => bind_request(s, ranges, range_count, table, count, operations, r),
     }
 }
 
@@ -306,10 +333,11 @@ pub fn bind_record(
     match record::decode(record, rules::SPARSE) {
         Decoded::Refuse(w) => Answer::Refused(w),
         Decoded::Record(r) => {
+            let answer = bind_request(s, ranges, range_count, table, count, operations, r);
             if r.flags == 0 {
-                return bind_plain(s, ranges, range_count, table, count, operations, r);
+                return answer;
             }
-            bind_flagged(s, ranges, range_count, table, count, operations, r)
+            relist(answer, r, ranges, range_count, table, count)
         }
     }
 }

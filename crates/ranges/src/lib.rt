@@ -75,7 +75,7 @@ pub fn keeps_rules(s: Space, list: &[u64], count: usize) -> bool
     if !all_fit(s, list, count) {
         return false;
     }
-    words::are_zero_from(list, 2 * count)
+    words::few_are_zero_from(list, 2 * count)
 }
 
 // A range as the search by halves takes it: as a mapping, whose object plays no part.
@@ -144,7 +144,7 @@ fn put_in(list: &mut [u64], count: usize, i: usize, x: Range)
     requires { ⌜ (i ≤ count) × (2 * count + 2 ≤ length (now list)) × ZeroFrom (now list) (2 * count) ⌝ }
     ensures { λ _. ⌜ now (list .exit) ≡ listWritten (length (now (list .entry))) (putIn x i (rangesIn count (now (list .entry)))) ⌝ }
 {
-    words::move_run(list, 2 * i, 2 * i + 2, 2 * (count - i));
+    words::up_few(list, 2 * i, 2 * i + 2, 2 * (count - i));
     words::store(list, 2 * i, &[x.start, x.size])
 }
 
@@ -154,7 +154,7 @@ fn take_out(list: &mut [u64], count: usize, i: usize)
     ensures { λ _. ⌜ now (list .exit) ≡ listWritten (length (now (list .entry))) (takenOut i (rangesIn count (now (list .entry)))) ⌝ }
 {
     let after = count - 1;
-    words::move_run(list, 2 * i + 2, 2 * i, 2 * (after - i));
+    words::down_few(list, 2 * i + 2, 2 * i, 2 * (after - i));
     words::store(list, 2 * after, &[0, 0])
 }
 

@@ -106,6 +106,10 @@ module _ (ws : List ℕ) (from : ℕ) where
             (j .all-zero none (zeros-first n (length ws - (from + n)) y), t .seen-zero (zeros-second n (length ws - (from + n)) h y)),
       )
 
+  -- all of them joined in one
+  pub all-tell : {seen : ℕ} → Tells ws from (length ws - from) seen → (seen ≡ 0 → ZeroFrom ws from) × (ZeroFrom ws from → seen ≡ 0)
+  all-tell t = (λ e. all-zero (t .words-zero e), λ z. t .seen-zero (zero-all z))
+
   pub zero-end : from ≡ length ws → ZeroFrom ws from
   zero-end e =
       let n : length ws - from ≡ 0 = omega arith in

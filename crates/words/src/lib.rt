@@ -87,7 +87,7 @@ fn up_turns(t: &mut [u64], from: usize, to: usize, turns: usize)
 }
 
 // Copies `n` words that are few, where `to` is not above `from`: by four, from the first to the last.
-fn down_few(t: &mut [u64], from: usize, to: usize, n: usize)
+pub fn down_few(t: &mut [u64], from: usize, to: usize, n: usize)
     requires { ⌜ (to ≤ from) × (from + n ≤ length (now t)) ⌝ }
     ensures { λ _. ⌜ now (t .exit) ≡ moved (now (t .entry)) from to n ⌝ }
 {
@@ -104,7 +104,7 @@ fn down_few(t: &mut [u64], from: usize, to: usize, n: usize)
 }
 
 // The same where `to` is not below `from`: from the last to the first.
-fn up_few(t: &mut [u64], from: usize, to: usize, n: usize)
+pub fn up_few(t: &mut [u64], from: usize, to: usize, n: usize)
     requires { ⌜ (from ≤ to) × (to + n ≤ length (now t)) ⌝ }
     ensures { λ _. ⌜ now (t .exit) ≡ moved (now (t .entry)) from to n ⌝ }
 {
@@ -247,7 +247,7 @@ fn join_fours(seen: Four, t: &[u64], from: usize, fours: usize) -> Four
     all
 }
 
-// All words from `from` on joined to one, one by one: there are fewer than four, and in a table none.
+// All words from `from` on joined to one, one by one.
 fn joined_from(t: &[u64], from: usize) -> u64
     requires { ⌜ from ≤ length (now t) ⌝ }
     ensures { λ seen. ⌜ Tells (now (t .entry)) from (length (now (t .entry)) - from) seen ⌝ }
@@ -259,6 +259,14 @@ fn joined_from(t: &[u64], from: usize) -> u64
         i += 1;
     }
     seen
+}
+
+// Whether all words from `from` on are zero, where they are few: joined one by one.
+pub fn few_are_zero_from(t: &[u64], from: usize) -> bool
+    requires { ⌜ from ≤ length (now t) ⌝ }
+    ensures { λ b. ⌜ (b ≡ true → ZeroFrom (now (t .entry)) from) × (ZeroFrom (now (t .entry)) from → b ≡ true) ⌝ }
+{
+    joined_from(t, from) == 0
 }
 
 // Whether all words from `from` on are zero: one look at all of them joined, without a branch for each. Behind a full

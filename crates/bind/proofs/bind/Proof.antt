@@ -17,8 +17,8 @@ enum-known-w c = search needs
 enum-told : tie.Need-enum-told
 enum-told c = search needs
 
-bind-plain-requires : tie.Need-bind-plain-requires
-bind-plain-requires c κs = search needs
+bind-request-requires : tie.Need-bind-request-requires
+bind-request-requires c κs = search needs
 
 returns : tie.Need-returns
 returns c =
@@ -39,7 +39,7 @@ returns-2 c =
     let formed = passed .before .before in
     let a = formed .before .before .before .before .args in
     bind-by (a .s) (lentWords (a .ranges .now) (a .range-count) (a .table .now) (a .count)) (a .operations .now) (a .q) (sym (ap verdictReply (passed .enum-told .given .1)) ∙ formed .form-verdict .ensures)
-    ∙ bound .bind-plain .ensures
+    ∙ bound .bind-request .ensures
 
 pub bind-spec : {M : Type 1} → statement M
 bind-spec =
@@ -48,7 +48,7 @@ bind-spec =
     form-verdict-requires
     enum-known-w
     enum-told
-    bind-plain-requires
+    bind-request-requires
     returns
     same-length
     same-length-2

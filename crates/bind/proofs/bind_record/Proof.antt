@@ -3,7 +3,7 @@
 use mathlib.Core.Path.{sym, ap, _∙_}
 use Rattle.model.specs.Calls.{decodedReply}
 use Rattle.bind.specs.Bound.{lentWords}
-use Rattle.bind.proofs.Binds.{bind-record-by}
+use Rattle.bind.proofs.Binds.{bind-record-by, some, partly-plain, relistable-there, bound-is}
 use borrow.Author.Needs.{needs}
 use Rattle.bind.proofs.bind_record.Statement.{statement}
 use Rattle.bind.proofs.bind_record.Tie as tie
@@ -17,8 +17,8 @@ enum-known-w c = search needs
 enum-known-r : tie.Need-enum-known-r
 enum-known-r c = search needs
 
-bind-plain-requires : tie.Need-bind-plain-requires
-bind-plain-requires c κs = search needs
+bind-request-requires : tie.Need-bind-request-requires
+bind-request-requires c κs = search needs
 
 same-length : tie.Need-same-length
 same-length c = search needs
@@ -31,15 +31,20 @@ same-length-3 c = search needs
 
 returns : tie.Need-returns
 returns c =
-    let bound = c .before .before .before .before in
-    let read = bound .before .before .before .before .before .before .before in
+    let bound = c .before .before .before .before .before .before in
+    let read = bound .before .before .before .before .before in
     let decoded = read .before .before in
     let a = decoded .before .before .before .before .before .args in
     bind-record-by (a .s) (lentWords (a .ranges .now) (a .range-count) (a .table .now) (a .count)) (a .operations .now) (a .«record» .now) (sym (ap decodedReply (read .r .given .1)) ∙ decoded .decode .ensures)
-    ∙ bound .bind-plain .ensures
+    ∙ sym (partly-plain (a .s) (lentWords (a .ranges .now) (a .range-count) (a .table .now) (a .count)) (a .operations .now) _ (c .if1 .taken))
+    ∙ bound .bind-request .ensures
 
-bind-flagged-requires : tie.Need-bind-flagged-requires
-bind-flagged-requires c κs = search needs
+relist-requires : tie.Need-relist-requires
+relist-requires c κs =
+    let bound = c .before .before .before .before .before .before .before .before in
+    let a = bound .before .before .before .before .before .before .before .before .before .before .before .before .args in
+    let h = some _ (c .before .before .if1 .left) in
+    (h, relistable-there (a .s) (a .ranges .now) (a .range-count) (a .table .now) (a .count) (a .operations .now) _ h (bound .bind-request .ensures))
 
 returns-2 : tie.Need-returns-2
 returns-2 c =
@@ -58,12 +63,15 @@ same-length-6 c = search needs
 
 returns-3 : tie.Need-returns-3
 returns-3 c =
-    let bound = c .before .before in
-    let read = bound .before .before .before .before .before .before .before in
+    let relisted = c .before .before in
+    let flagged = relisted .before .before .before in
+    let bound = flagged .before .before .before .before .before .before in
+    let read = bound .before .before .before .before .before in
     let decoded = read .before .before in
     let a = decoded .before .before .before .before .before .args in
+    let h = some _ (flagged .if1 .left) in
     bind-record-by (a .s) (lentWords (a .ranges .now) (a .range-count) (a .table .now) (a .count)) (a .operations .now) (a .«record» .now) (sym (ap decodedReply (read .r .given .1)) ∙ decoded .decode .ensures)
-    ∙ bound .bind-flagged .ensures
+    ∙ bound-is (a .s) (a .ranges .now) (a .range-count) (a .table .now) (a .count) (a .operations .now) _ h (bound .bind-request .ensures) (relisted .relist .ensures (a .operations .now))
 
 pub bind-record-spec : {M : Type 1} → statement M
 bind-record-spec =
@@ -72,12 +80,12 @@ bind-record-spec =
     decode-requires
     enum-known-w
     enum-known-r
-    bind-plain-requires
+    bind-request-requires
     same-length
     same-length-2
     same-length-3
     returns
-    bind-flagged-requires
+    relist-requires
     returns-2
     same-length-4
     same-length-5

@@ -18,23 +18,36 @@ enum-known-w c = search needs
 enum-told : tie.Need-enum-told
 enum-told c = search needs
 
-list-verdict-requires : tie.Need-list-verdict-requires
-list-verdict-requires c κs =
-    let tabled = c .before .before in
-    let a = tabled .before .before .before .args in
-    space-held (a .s) (lentWords (a .ranges .now) (a .range-count) (a .table .now) (a .count)) [] (sym (ap verdictReply (c .enum-told .given .1)) ∙ tabled .lookup-table-verdict .ensures)
+is-none-requires : tie.Need-is-none-requires
+is-none-requires c κs = search needs
 
 returns : tie.Need-returns
 returns c =
-    let tabled = c .before .before .before in
+    let asked = c .before in
+    let passed = asked .before in
+    let tabled = passed .before .before in
     let a = tabled .before .before .before .args in
-    lent-by (a .s) (lentWords (a .ranges .now) (a .range-count) (a .table .now) (a .count)) [] (sym (ap verdictReply (c .before .w .given .1)) ∙ tabled .lookup-table-verdict .ensures) refl
+    lent-by (a .s) (lentWords (a .ranges .now) (a .range-count) (a .table .now) (a .count)) [] (sym (ap verdictReply (passed .enum-told .given .1)) ∙ tabled .lookup-table-verdict .ensures) (asked .is-none .ensures (c .if1 .taken) (a .s))
+
+list-verdict-requires : tie.Need-list-verdict-requires
+list-verdict-requires c κs =
+    let passed = c .before .before in
+    let tabled = passed .before .before in
+    let a = tabled .before .before .before .args in
+    space-held (a .s) (lentWords (a .ranges .now) (a .range-count) (a .table .now) (a .count)) [] (sym (ap verdictReply (passed .enum-told .given .1)) ∙ tabled .lookup-table-verdict .ensures)
 
 returns-2 : tie.Need-returns-2
 returns-2 c =
     let tabled = c .before .before .before in
     let a = tabled .before .before .before .args in
-    lent-by (a .s) (lentWords (a .ranges .now) (a .range-count) (a .table .now) (a .count)) [] (sym (ap verdictReply (c .before .enum-told .given .1)) ∙ tabled .lookup-table-verdict .ensures) (c .list-verdict .ensures)
+    lent-by (a .s) (lentWords (a .ranges .now) (a .range-count) (a .table .now) (a .count)) [] (sym (ap verdictReply (c .before .w .given .1)) ∙ tabled .lookup-table-verdict .ensures) refl
+
+returns-3 : tie.Need-returns-3
+returns-3 c =
+    let passed = c .before .before .before in
+    let tabled = passed .before .before in
+    let a = tabled .before .before .before .args in
+    lent-by (a .s) (lentWords (a .ranges .now) (a .range-count) (a .table .now) (a .count)) [] (sym (ap verdictReply (passed .enum-told .given .1)) ∙ tabled .lookup-table-verdict .ensures) (c .list-verdict .ensures)
 
 pub lookup-verdict-spec : {M : Type 1} → statement M
 lookup-verdict-spec =
@@ -43,6 +56,8 @@ lookup-verdict-spec =
     lookup-table-verdict-requires
     enum-known-w
     enum-told
-    list-verdict-requires
+    is-none-requires
     returns
-    returns-2)
+    list-verdict-requires
+    returns-2
+    returns-3)

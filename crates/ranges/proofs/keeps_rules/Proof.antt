@@ -37,14 +37,14 @@ returns-3 c =
     let a = c .before .before .before .before .before .before .args in
     range-breaks (a .s) (lentList (a .list .now) (a .count)) (failed (c .before .all-fit .ensures) (c .if3 .taken))
 
-mul-are-zero-from : tie.Need-mul-are-zero-from
-mul-are-zero-from c =
+mul-few-are-zero-from : tie.Need-mul-few-are-zero-from
+mul-few-are-zero-from c =
     let right = c .before .before .before in
     let a = right .before .before .before .args in
     omega (arith, length-holds (a .s) (lentList (a .list .now) (a .count)) (held (right .length-is-right .ensures) (c .before .before .if2 .left)))
 
-are-zero-from-requires : tie.Need-are-zero-from-requires
-are-zero-from-requires c κs =
+few-are-zero-from-requires : tie.Need-few-are-zero-from-requires
+few-are-zero-from-requires c κs =
     let right = c .before .before .before in
     let a = right .before .before .before .args in
     omega (arith, length-holds (a .s) (lentList (a .list .now) (a .count)) (held (right .length-is-right .ensures) (c .before .before .if2 .left)))
@@ -55,7 +55,7 @@ returns-4 c =
     let right = fit .before .before in
     let a = right .before .before .before .args in
     words-decide (a .s) (lentList (a .list .now) (a .count)) (held (right .length-is-right .ensures) (fit .before .if2 .left))
-    (held (fit .all-fit .ensures) (c .before .if3 .left)) (c .are-zero-from .ensures)
+    (held (fit .all-fit .ensures) (c .before .if3 .left)) (c .few-are-zero-from .ensures)
 
 pub keeps-rules-spec : {M : Type 1} → statement M
 keeps-rules-spec =
@@ -66,6 +66,6 @@ keeps-rules-spec =
     returns-2
     all-fit-requires
     returns-3
-    mul-are-zero-from
-    are-zero-from-requires
+    mul-few-are-zero-from
+    few-are-zero-from-requires
     returns-4)

@@ -7,23 +7,23 @@ use borrow.Author.Needs.{needs}
 use Rattle.ranges.proofs.put_in.Statement.{statement}
 use Rattle.ranges.proofs.put_in.Tie as tie
 
-mul-move-run : tie.Need-mul-move-run
-mul-move-run c = search needs
+mul-up-few : tie.Need-mul-up-few
+mul-up-few c = search needs
 
-mul-move-run-2 : tie.Need-mul-move-run-2
-mul-move-run-2 c = search needs
+mul-up-few-2 : tie.Need-mul-up-few-2
+mul-up-few-2 c = search needs
 
-add-move-run : tie.Need-add-move-run
-add-move-run c = search needs
+add-up-few : tie.Need-add-up-few
+add-up-few c = search needs
 
-sub-move-run : tie.Need-sub-move-run
-sub-move-run c = search needs
+sub-up-few : tie.Need-sub-up-few
+sub-up-few c = search needs
 
-mul-move-run-3 : tie.Need-mul-move-run-3
-mul-move-run-3 c = search needs
+mul-up-few-3 : tie.Need-mul-up-few-3
+mul-up-few-3 c = search needs
 
-move-run-requires : tie.Need-move-run-requires
-move-run-requires c κs = search needs
+up-few-requires : tie.Need-up-few-requires
+up-few-requires c κs = search needs
 
 mul-store : tie.Need-mul-store
 mul-store c = search needs
@@ -44,18 +44,18 @@ returns c =
     let start = moved .before .before .before in
     let a = start .args in
     stored .store .ensures
-    ∙ rw (moved .move-run .ensures) (put-written (a .list .now) (a .count) (a .i) (omega arith) (start .pre .2) (a .x) (start .pre .0) (start .pre .1))
+    ∙ rw (moved .up-few .ensures) (put-written (a .list .now) (a .count) (a .i) (omega arith) (start .pre .2) (a .x) (start .pre .0) (start .pre .1))
 
 pub put-in-spec : {M : Type 1} → statement M
 put-in-spec =
     tie.close
     (tie.spec
-    mul-move-run
-    mul-move-run-2
-    add-move-run
-    sub-move-run
-    mul-move-run-3
-    move-run-requires
+    mul-up-few
+    mul-up-few-2
+    add-up-few
+    sub-up-few
+    mul-up-few-3
+    up-few-requires
     mul-store
     slice-aggregate-store
     store-requires

@@ -9,23 +9,23 @@ use Rattle.ranges.proofs.take_out.Tie as tie
 sub-after : tie.Need-sub-after
 sub-after c = search needs
 
-mul-move-run : tie.Need-mul-move-run
-mul-move-run c = search needs
+mul-down-few : tie.Need-mul-down-few
+mul-down-few c = search needs
 
-add-move-run : tie.Need-add-move-run
-add-move-run c = search needs
+add-down-few : tie.Need-add-down-few
+add-down-few c = search needs
 
-mul-move-run-2 : tie.Need-mul-move-run-2
-mul-move-run-2 c = search needs
+mul-down-few-2 : tie.Need-mul-down-few-2
+mul-down-few-2 c = search needs
 
-sub-move-run : tie.Need-sub-move-run
-sub-move-run c = search needs
+sub-down-few : tie.Need-sub-down-few
+sub-down-few c = search needs
 
-mul-move-run-3 : tie.Need-mul-move-run-3
-mul-move-run-3 c = search needs
+mul-down-few-3 : tie.Need-mul-down-few-3
+mul-down-few-3 c = search needs
 
-move-run-requires : tie.Need-move-run-requires
-move-run-requires c κs = search needs
+down-few-requires : tie.Need-down-few-requires
+down-few-requires c κs = search needs
 
 mul-store : tie.Need-mul-store
 mul-store c = search needs
@@ -46,19 +46,19 @@ returns c =
     let start = moved .before .before .before in
     let a = start .args in
     stored .store .ensures
-    ∙ rw (moved .move-run .ensures) (out-written (a .list .now) (a .count) (a .i) (start .pre .1) (start .pre .2) (start .pre .0))
+    ∙ rw (moved .down-few .ensures) (out-written (a .list .now) (a .count) (a .i) (start .pre .1) (start .pre .2) (start .pre .0))
 
 pub take-out-spec : {M : Type 1} → statement M
 take-out-spec =
     tie.close
     (tie.spec
     sub-after
-    mul-move-run
-    add-move-run
-    mul-move-run-2
-    sub-move-run
-    mul-move-run-3
-    move-run-requires
+    mul-down-few
+    add-down-few
+    mul-down-few-2
+    sub-down-few
+    mul-down-few-3
+    down-few-requires
     mul-store
     slice-aggregate-store
     store-requires

@@ -1,0 +1,81 @@
+-- `bind::bind_request` meets its contract.
+-- Assumes nothing.
+use mathlib.Core.Path.{sym, ap, _∙_}
+use Prim.Native.Nat.{ℕ}
+use lib.ListN.{length}
+use Rattle.model.specs.Calls.{purposeFor, verdictReply}
+use Rattle.bind.specs.Bound.{lentWords, decided}
+use Rattle.bind.proofs.Checked.{ready}
+use Rattle.bind.proofs.Binds.{bound-by, some, partly-plain, partly-passed, partly-refused}
+use borrow.Author.Needs.{needs}
+use Rattle.bind.proofs.bind_request.Statement.{statement}
+use Rattle.bind.proofs.bind_request.Tie as tie
+
+bind-verdict-requires : tie.Need-bind-verdict-requires
+bind-verdict-requires c κs = search needs
+
+enum-known-w : tie.Need-enum-known-w
+enum-known-w c = search needs
+
+enum-told : tie.Need-enum-told
+enum-told c = search needs
+
+cut-table-requires : tie.Need-cut-table-requires
+cut-table-requires c κs =
+    let passed = c .before .before .before .before in
+    let checked = passed .before .before in
+    let a = checked .before .before .before .before .before .args in
+    ready (a .s) (lentWords (a .ranges .now) (a .range-count) (a .table .now) (a .count)) (length (a .operations .now)) (a .r) (sym (ap verdictReply (passed .enum-told .given .1)) ∙ checked .bind-verdict .ensures)
+
+same-length : tie.Need-same-length
+same-length c = search needs
+
+same-length-2 : tie.Need-same-length-2
+same-length-2 c = search needs
+
+returns : tie.Need-returns
+returns c =
+    let cut = c .before .before .before .before in
+    let plain = cut .before .before .before in
+    let passed = plain .before .before in
+    let checked = passed .before .before in
+    let a = checked .before .before .before .before .before .args in
+    partly-plain (a .s) (lentWords (a .ranges .now) (a .range-count) (a .table .now) (a .count)) (a .operations .now) (a .r) (plain .if1 .taken)
+    ∙ bound-by (lentWords (a .ranges .now) (a .range-count) (a .table .now) (a .count)) (a .operations .now) (a .r) (a .s) (sym (ap verdictReply (passed .enum-told .given .1)) ∙ checked .bind-verdict .ensures)
+    ∙ ap (λ (f : ℕ). decided (purposeFor f (a .r .op)) (a .r) (lentWords (a .ranges .now) (a .range-count) (a .table .now) (a .count)) (a .operations .now)) (plain .if1 .taken)
+    ∙ cut .cut-table .ensures (a .ranges .now)
+
+same-length-3 : tie.Need-same-length-3
+same-length-3 c = search needs
+
+returns-2 : tie.Need-returns-2
+returns-2 c =
+    let checked = c .before .before .before in
+    let a = checked .before .before .before .before .before .args in
+    partly-refused (a .s) (lentWords (a .ranges .now) (a .range-count) (a .table .now) (a .count)) (a .operations .now) (a .r) (sym (ap verdictReply (c .before .w .given .1)) ∙ checked .bind-verdict .ensures)
+
+same-length-4 : tie.Need-same-length-4
+same-length-4 c = search needs
+
+returns-3 : tie.Need-returns-3
+returns-3 c =
+    let passed = c .before .before in
+    let checked = passed .before .before in
+    let a = checked .before .before .before .before .before .args in
+    partly-passed (a .s) (lentWords (a .ranges .now) (a .range-count) (a .table .now) (a .count)) (a .operations .now) (a .r) (some (a .r .flags) (c .if1 .left)) (sym (ap verdictReply (passed .enum-told .given .1)) ∙ checked .bind-verdict .ensures)
+
+pub bind-request-spec : {M : Type 1} → statement M
+bind-request-spec =
+    tie.close
+    (tie.spec
+    bind-verdict-requires
+    enum-known-w
+    enum-told
+    cut-table-requires
+    same-length
+    same-length-2
+    returns
+    same-length-3
+    returns-2
+    same-length-4
+    returns-3)
