@@ -276,7 +276,7 @@ fn lengths_and_counts() {
 #[derive(Clone)]
 struct Case {
     table: Table,
-    list: usize,
+    operation_words: usize,
     record: Record,
     record_bytes: usize,
 }
@@ -293,7 +293,7 @@ fn without_fault() -> Case {
             words,
             count: 2,
         },
-        list: least_operation_words(3),
+        operation_words: least_operation_words(3),
         record: Record::plain(MAP, 9, 8 * PAGE, 0, PAGE),
         record_bytes: 40,
     }
@@ -312,9 +312,9 @@ const FAULTS: [Fault; 33] = [
     (1, |case| case.table.space.start = 1),
     (2, |case| case.table.words.truncate(11)),
     (2, |case| case.table.words.resize(16_388, 0)),
-    (3, |case| case.list -= 1),
+    (3, |case| case.operation_words -= 1),
     (3, |case| {
-        case.list -= 1;
+        case.operation_words -= 1;
         case.record = Record::sparse(MAP, 8 * PAGE, PAGE);
     }),
     (4, |case| case.table.count = 4),
@@ -366,7 +366,7 @@ const FAULTS: [Fault; 33] = [
     (20, |case| {
         case.record = Record::sparse(UNMAP, 2 * PAGE, 4 * PAGE)
     }),
-    // Into the middle of the first mapping: two more. And one more than the list has room for.
+    // Into the middle of the first mapping: two more.
     (11, |case| case.record.addr = PAGE),
     (0, |_| {}),
     (0, |case| case.record = sparse_map()),
@@ -410,10 +410,10 @@ fn number(case: &Case, way: Way, by_record: bool) -> u32 {
         true => Asking::Bytes(bytes),
         false => Asking::Numbers(case.record.request()),
     };
-    let model = model_answer(&case.table, case.list, asking);
+    let model = model_answer(&case.table, case.operation_words, asking);
     let mut caller = Caller::new(631);
     caller.lend(&case.table);
-    caller.lend_operations(&vec![9; case.list]);
+    caller.lend_operations(&vec![9; case.operation_words]);
     caller.bind(way, &case.table, asking, &model);
     model.map_or_else(|refused| refused.number, |_| 0)
 }
