@@ -1,6 +1,5 @@
 -- `bind::is_none` meets its contract.
 -- Assumes nothing.
-use mathlib.Core.Bool.{_&&_}
 use Rattle.bind.proofs.Checked.{none-listed}
 use Rattle.bind.proofs.is_none.Statement.{statement}
 use Rattle.bind.proofs.is_none.Tie as tie
