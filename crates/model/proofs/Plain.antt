@@ -6,17 +6,16 @@ use mathlib.Core.Bool.{Bool, true, false}
 use mathlib.Core.List.{List, [], _∷_, _++_, append-assoc}
 use Prim.Native.Nat.{ℕ, zero, suc}
 use native.Mathlib.Omega.{arith}
-use lib.Dec.{eqb, eqb→eq, leb}
+use lib.Dec.{eqb, eqb→eq}
 use lib.ListN.{length}
 use Rattle.model.specs.Prelude.{Space, Request, Grant}
 use Rattle.model.specs.Rows.{all, Row, row, Reply, refused, choose, decide}
 use Rattle.model.specs.Rules.{sparseFlag, formRows, requestRows}
-use Rattle.model.specs.Table.{capacity, mappings, operationsRow}
-use Rattle.model.specs.Cut.{after}
-use Rattle.model.specs.Calls.{Asking, asked, recordRow, Lent, lentRows, cuts, purposeFor, purpose, lastRows, bindRows, grantFor, outcomeFor, bind}
+use Rattle.model.specs.Table.{operationsRow}
+use Rattle.model.specs.Calls.{Asking, asked, recordRow, Lent, lentRows, cuts, purposeFor, purpose, roomTests, lastRows, bindRows, grantFor, outcomeFor, bind}
 use Rattle.model.specs.Exactly.{Unflagged}
 use Rattle.model.proofs.Tests.{all-facts, or-cases}
-use Rattle.model.proofs.Rows.{Passed, passed-split}
+use Rattle.model.proofs.Rows.{Passed, passed-split, decide-append}
 use Rattle.model.proofs.Groups.{form-passed}
 
 -- the rows in front of those that go by what a request is for
@@ -29,7 +28,7 @@ rows-are s l n q = simp append-assoc
 
 -- the table has room for what a request leaves
 abbrev pub roomRow : Lent → Request → Row
-roomRow l r = row 11 (leb (length (after r (mappings (l .table)))) (capacity (l .table)) ∷ [])
+roomRow l r = row 11 (roomTests cuts r l)
 
 -- rows that don't all pass refuse, whatever comes behind them
 stuck : (ws : List Row) → (Passed ws → ⊥) → (n : ℕ) × (p : ℕ) × ((vs : List Row) (a : Grant) → decide (ws ++ vs) a ≡ refused n p)
@@ -43,12 +42,6 @@ stuck (w ∷ ws) h = go (all (w .tests)) refl (stuck ws)
     go true e ih = ih (λ k. h (all-facts (w .tests) e, k))
     go false e ih = (w .number, w .place, λ vs a. refl)
 
--- a row without tests says nothing
-no-tests : (ws : List Row) (n : ℕ) (vs : List Row) (a : Grant) → decide (ws ++ row n [] ∷ vs) a ≡ decide (ws ++ vs) a
-unfolding decide
-no-tests [] n vs a = refl
-no-tests (w ∷ ws) n vs a = ap (λ (d : Reply Grant). choose (all (w .tests)) d (refused (w .number) (w .place))) (no-tests ws n vs a)
-
 -- past row 14 a request without the flag has no flags
 no-flags : (s : Space) (l : Lent) (n : ℕ) (q : Asking) → Unflagged (asked q) → Passed (front s l n q) → asked q .flags ≡ 0
 no-flags s l n q off h =
@@ -57,7 +50,7 @@ no-flags s l n q off h =
 
 pub plain : (s : Space) (l : Lent) (os : List ℕ) (q : Asking) → Unflagged (asked q)
     → bind s l os q ≡ outcomeFor (decide (front s l (length os) q ++ roomRow l (asked q) ∷ []) (grantFor cuts (asked q) l)) cuts (asked q) l os
-unfolding bind
+unfolding bind decide
 plain s l os q off = ap (λ (ws : List Row). outcomeFor (decide ws (grantFor (purpose r) r l)) (purpose r) r l os) (rows-are s l (length os) q) ∙ go (r .flags) refl
   where
     r : Request
@@ -70,7 +63,7 @@ plain s l os q off = ap (λ (ws : List Row). outcomeFor (decide ws (grantFor (pu
         ≡ outcomeFor (decide (rows ++ roomRow l r ∷ []) (grantFor cuts r l)) cuts r l os
     go zero e = ap (λ (f : ℕ). let for = purposeFor f (r .op) in outcomeFor (decide (rows ++ lastRows for r l) (grantFor for r l)) for r l os) e
         ∙ ap (λ (a : Reply Grant). outcomeFor a cuts r l os)
-        (no-tests rows 19 (row 20 [] ∷ roomRow l r ∷ []) (grantFor cuts r l) ∙ no-tests rows 20 (roomRow l r ∷ []) (grantFor cuts r l))
+        (decide-append rows (lastRows cuts r l) (grantFor cuts r l) ∙ sym (decide-append rows (roomRow l r ∷ []) (grantFor cuts r l)))
     go (suc f) e =
         let w = stuck rows (λ h. omega (arith, e, no-flags s l (length os) q off h)) in
         ap (λ (a : Reply Grant). outcomeFor a (purpose r) r l os) (w .2 (lastRows (purpose r) r l) (grantFor (purpose r) r l))

@@ -6,19 +6,19 @@ use mathlib.Core.Bool.{Bool, true, false}
 use mathlib.Core.List.{List, [], _∷_, _++_, map, flatMap, List·Memᴰ·head, List·Memᴰ·tail, List·Memᴰ·not-nil, List·Memᴰ·cases-cons}
 use Prim.Native.Nat.{ℕ, zero, suc, _+_, _-_, _*_, _≤_}
 use native.Mathlib.Omega.{arith}
-use lib.Dec.{T, eqb, eqb→eq}
+use lib.Dec.{T}
 use lib.ListN.{length, take, drop, replicate, length-append, length-replicate}
 use lib.Seq.{drop-append-seam}
 use Rattle.model.specs.Prelude.{Range, Space, Mapping, Request, Nothing, Sparse}
 use Rattle.model.specs.Rows.{all, choose}
 use Rattle.model.specs.Rules.{end, stop, apart}
 use Rattle.model.specs.Table.{zeroTests}
-use Rattle.model.specs.Ranges.{RangeList, rangesIn, ranges, rangeWords, listWritten, rangeEnd, rangeTests, listTests, listRow, inRangeTests, bare, sameRange, listed}
+use Rattle.model.specs.Ranges.{RangeList, rangesIn, ranges, rangeWords, listWritten, rangeEnd, rangeTests, listTests, listRow, inRangeTests, bare, sameTests, sameRange, listed}
 use Rattle.model.specs.Cut.{spared}
 use Rattle.model.specs.Exactly.{Each, _∈_, Ordered, ShareByte, RangeRules, ListRules}
 use Rattle.model.specs.Lookups.{InRange, NoRange}
 use Rattle.model.proofs.Actions.{each, each-map}
-use Rattle.model.proofs.Tests.{tests, Says, all-true, all-false, and-both, both-and, or-cases, or-left, or-right, alls-split, alls-join, each-says, eq→eqb}
+use Rattle.model.proofs.Tests.{tests, Says, all-true, all-false, all-alls, alls-all, or-cases, or-left, or-right, alls-split, alls-join, each-says, eq→eqb}
 use Rattle.model.proofs.Rules.{apart-shares, shares-apart}
 use Rattle.model.proofs.Zeros.{places-say}
 
@@ -92,10 +92,14 @@ list-row-says s l = (
 pub same-says : (x y : Range) → (T (sameRange x y) → x ≡ y) × (x ≡ y → T (sameRange x y))
 same-says x y = (
   λ h.
-      let k = and-both (eqb (x .start) (y .start)) (eqb (x .size) (y .size)) h in
-      λ i. record { start = eqb→eq (x .start) (y .start) (k .0) i; size = eqb→eq (x .size) (y .size) (k .1) i },
-  λ e. both-and (eqb (x .start) (y .start)) (eqb (x .size) (y .size))
-      (eq→eqb _ _ (ap (λ (z : Range). z .start) e)) (eq→eqb _ _ (ap (λ (z : Range). z .size) e)),
+      let k = all-alls (sameTests x y) h in
+      let a : x .start ≡ y .start = omega (tests, k) in
+      let b : x .size ≡ y .size = omega (tests, k) in
+      λ i. record { start = a i; size = b i },
+  λ e.
+      let a : x .start ≡ y .start = ap (λ (z : Range). z .start) e in
+      let b : x .size ≡ y .size = ap (λ (z : Range). z .size) e in
+      alls-all (sameTests x y) (omega tests),
 )
 
 pub listed-says : (x : Range) (xs : List Range) → (T (listed x xs) → x ∈ xs) × (x ∈ xs → T (listed x xs))

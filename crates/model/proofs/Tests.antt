@@ -25,7 +25,7 @@ pub and-both : (a b : Bool) → T (a && b) → T a × T b
 and-both true b t = (tt, t)
 and-both false b t = absurd t
 
-pub both-and : (a b : Bool) → T a → T b → T (a && b)
+both-and : (a b : Bool) → T a → T b → T (a && b)
 both-and true b t u = u
 both-and false b t u = t
 
@@ -57,11 +57,11 @@ alls-allFrom : (a : Bool) (bs : List Bool) → T a → Alls bs → T (allFrom a 
 alls-allFrom a [] t h = t
 alls-allFrom a (b ∷ bs) t h = alls-allFrom (a && b) bs (both-and a b t (h .0)) (h .1)
 
-all-alls : (bs : List Bool) → T (all bs) → Alls bs
+pub all-alls : (bs : List Bool) → T (all bs) → Alls bs
 all-alls [] t = tt
 all-alls (b ∷ bs) t = allFrom-alls b bs t
 
-alls-all : (bs : List Bool) → Alls bs → T (all bs)
+pub alls-all : (bs : List Bool) → Alls bs → T (all bs)
 alls-all [] h = tt
 alls-all (b ∷ bs) h = alls-allFrom b bs (h .0) (h .1)
 

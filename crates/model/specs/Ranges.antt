@@ -85,8 +85,11 @@ insertRange x [] = x ∷ []
 insertRange x (y ∷ ys) = choose (leb (x .start) (y .start)) (x ∷ y ∷ ys) (y ∷ insertRange x ys)
 
 -- exactly that start and size
+abbrev pub sameTests : Range → Range → List Bool
+sameTests x y = eqb (x .start) (y .start) ∷ eqb (x .size) (y .size) ∷ []
+
 abbrev pub sameRange : Range → Range → Bool
-sameRange x y = all (eqb (x .start) (y .start) ∷ eqb (x .size) (y .size) ∷ [])
+sameRange x y = all (sameTests x y)
 
 unfoldable pub listed : Range → List Range → Bool
 listed x [] = false
