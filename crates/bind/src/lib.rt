@@ -65,7 +65,8 @@ fn lookup_table_verdict(s: Space, table: &[u64], count: usize) -> Verdict
     inspect::table_verdict(s, table, count)
 }
 
-// Rows 1, 2, 4, 5, 17 and 18.
+// Rows 1, 2, 4, 5, 17 and 18. The list is lent on as a part: where there is none, its pointer and length then stay in
+// registers, and are not stored for a call that is not made.
 fn lookup_verdict(
     s: Space,
     ranges: &[u64],
@@ -81,7 +82,7 @@ fn lookup_verdict(
             if is_none(ranges, range_count) {
                 return Verdict::Pass;
             }
-            list_verdict(s, ranges, range_count)
+            list_verdict(s, &ranges[0..], range_count)
         }
     }
 }
@@ -123,7 +124,7 @@ fn table_verdict(s: Space, table: &[u64], count: usize, operation_words: usize) 
     inspect::contents_verdict(s, table, count)
 }
 
-// Rows 1 to 5, 17 and 18.
+// Rows 1 to 5, 17 and 18. The list is lent on as in `lookup_verdict`.
 fn lent_verdict(
     s: Space,
     ranges: &[u64],
@@ -140,7 +141,7 @@ fn lent_verdict(
             if is_none(ranges, range_count) {
                 return Verdict::Pass;
             }
-            list_verdict(s, ranges, range_count)
+            list_verdict(s, &ranges[0..], range_count)
         }
     }
 }

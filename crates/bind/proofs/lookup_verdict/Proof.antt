@@ -1,7 +1,14 @@
 -- `bind::lookup_verdict` meets its contract.
 -- Assumes nothing.
-use mathlib.Core.Path.{refl, sym, ap, _∙_}
-use mathlib.Core.List.{[]}
+use mathlib.Core.Path.{_≡_, refl, sym, ap, subst, _∙_}
+use mathlib.Core.List.{List, [], _∷_}
+use Prim.Native.Nat.{ℕ, _-_}
+use native.Mathlib.Omega.{arith}
+use lib.ListN.{length}
+use lib.Seq.{take-all}
+use Rattle.model.specs.Rows.{verdict}
+use Rattle.model.specs.Ranges.{listRow}
+use Rattle.ranges.specs.Lists.{lentList}
 use Rattle.model.specs.Calls.{verdictReply}
 use Rattle.bind.specs.Bound.{lentWords}
 use Rattle.bind.proofs.Checked.{space-held, lent-by}
@@ -29,9 +36,18 @@ returns c =
     let a = tabled .before .before .before .args in
     lent-by (a .s) (lentWords (a .ranges .now) (a .range-count) (a .table .now) (a .count)) [] (sym (ap verdictReply (passed .enum-told .given .1)) ∙ tabled .lookup-table-verdict .ensures) (asked .is-none .ensures (c .if1 .taken) (a .s))
 
+sub-list-verdict : tie.Need-sub-list-verdict
+sub-list-verdict c = search needs
+
+part-list-verdict-start : tie.Need-part-list-verdict-start
+part-list-verdict-start c = search needs
+
+part-list-verdict-end : tie.Need-part-list-verdict-end
+part-list-verdict-end c = search needs
+
 list-verdict-requires : tie.Need-list-verdict-requires
 list-verdict-requires c κs =
-    let passed = c .before .before in
+    let passed = c .before .before .before in
     let tabled = passed .before .before in
     let a = tabled .before .before .before .args in
     space-held (a .s) (lentWords (a .ranges .now) (a .range-count) (a .table .now) (a .count)) [] (sym (ap verdictReply (passed .enum-told .given .1)) ∙ tabled .lookup-table-verdict .ensures)
@@ -44,10 +60,10 @@ returns-2 c =
 
 returns-3 : tie.Need-returns-3
 returns-3 c =
-    let passed = c .before .before .before in
+    let passed = c .before .before .before .before in
     let tabled = passed .before .before in
     let a = tabled .before .before .before .args in
-    lent-by (a .s) (lentWords (a .ranges .now) (a .range-count) (a .table .now) (a .count)) [] (sym (ap verdictReply (passed .enum-told .given .1)) ∙ tabled .lookup-table-verdict .ensures) (c .list-verdict .ensures)
+    lent-by (a .s) (lentWords (a .ranges .now) (a .range-count) (a .table .now) (a .count)) [] (sym (ap verdictReply (passed .enum-told .given .1)) ∙ tabled .lookup-table-verdict .ensures) (subst (λ (ws : List ℕ). verdictReply (c .list-verdict .result) ≡ verdict (listRow (a .s) (lentList ws (a .range-count)) ∷ [])) (take-all (length (a .ranges .now) - 0) (a .ranges .now) (omega arith)) (c .list-verdict .ensures))
 
 pub lookup-verdict-spec : {M : Type 1} → statement M
 lookup-verdict-spec =
@@ -58,6 +74,9 @@ lookup-verdict-spec =
     enum-told
     is-none-requires
     returns
+    sub-list-verdict
+    part-list-verdict-start
+    part-list-verdict-end
     list-verdict-requires
     returns-2
     returns-3)
