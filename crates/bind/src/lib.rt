@@ -82,6 +82,7 @@ fn lookup_verdict(
             if is_none(ranges, range_count) {
                 return Verdict::Pass;
             }
+            // As a part: lent on as it came, its address and length would be stored at every call.
             list_verdict(s, &ranges[0..], range_count)
         }
     }
@@ -141,6 +142,7 @@ fn lent_verdict(
             if is_none(ranges, range_count) {
                 return Verdict::Pass;
             }
+            // As a part: lent on as it came, its address and length would be stored at every call.
             list_verdict(s, &ranges[0..], range_count)
         }
     }
