@@ -50,10 +50,13 @@ changedFor (answered g) r t os = record {
   operations = flatMap operationWords (operations r (mappings t)) ++ drop (14 * length (operations r (mappings t))) os;
 }
 
+-- the numbers of operations and of mappings afterwards
+abbrev pub made : Request → Table → ℕ × ℕ
+made r t = (length (operations r (mappings t)), length (after r (mappings t)))
+
 -- the last row, 11, alone decides
 unfoldable pub changed : Request → Table → List ℕ → Changed
-changed r t os =
-    changedFor (decide (row 11 (leb (length (after r (mappings t))) (capacity t) ∷ []) ∷ []) (length (operations r (mappings t)), length (after r (mappings t)))) r t os
+changed r t os = changedFor (decide (row 11 (leb (length (after r (mappings t))) (capacity t) ∷ []) ∷ []) (made r t)) r t os
 
 abbrev pub changeReply : ChangeAnswer → Reply (ℕ × ℕ)
 changeReply (Made n count) = answered (n, count)

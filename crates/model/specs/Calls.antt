@@ -1,5 +1,6 @@
 -- A request as it comes, the public calls (the answer and every lent word after it), and how code's answers are read.
-use Rattle.model.specs.Prelude.{Bool, List, [], _∷_, _++_, map, flatMap, ℕ, zero, suc, _+_, _*_, _/_, _%_, leb, ltb, eqb, length, getD, drop, Range, Space, Request, Shown, Seen, Grant}
+use Rattle.model.specs.Prelude.{Bool, List, [], _∷_, _++_, map, flatMap, ℕ, zero, suc, _+_, _*_, _/_, _%_, leb}
+use Rattle.model.specs.Prelude.{ltb, eqb, length, getD, drop, Range, Space, Request, Shown, Seen, Grant}
 pub use Rattle.model.specs.Rows.{all, choose, Row, row, Reply, refused, answered, decide, verdict, numberOf}
 pub use Rattle.model.specs.Rules.{mostMappings, sparseFlag, apart, end, stop, byNumbers, spaceRow, formRows, requestRows}
 pub use Rattle.model.specs.Table.{Table, capacity, mappings, written, badPlace, operationsRow, tableRows}
@@ -7,7 +8,10 @@ pub use Rattle.model.specs.Ranges.{RangeList, ranges, rangeEnd, listWrit
 pub use Rattle.model.specs.Cut.{mappingOf, new, after, spared, operations, restsOf, old, rests, translate, see}
 pub use Rattle.model.specs.Layout.{operationWords}
 use Rattle.model.specs.declared.Refusal.{Refusal}
-use Rattle.model.specs.declared.Refusal.the-variants.{BadSpace, BadTableLength, ShortOperations, BadCount, BadMapping, Unaligned, OutsideSpace, Reserved, BadObject, BadOffset, NoRoom, BadRecordLength, BadOp, BadFlags, StaleWords, BadRanges, RangeOverlaps, NoSuchRange}
+use Rattle.model.specs.declared.Refusal.the-variants.{BadSpace, BadTableLength, ShortOperations, BadCount}
+use Rattle.model.specs.declared.Refusal.the-variants.{BadMapping, Unaligned, OutsideSpace, Reserved, BadObject}
+use Rattle.model.specs.declared.Refusal.the-variants.{BadOffset, NoRoom, BadRecordLength, BadOp, BadFlags}
+use Rattle.model.specs.declared.Refusal.the-variants.{StaleWords, BadRanges, RangeOverlaps, NoSuchRange}
 use Rattle.model.specs.declared.Verdict.{Verdict}
 use Rattle.model.specs.declared.Verdict.the-variants.{Pass, Refuse as VerdictRefuse}
 use Rattle.model.specs.declared.Decoded.{Decoded}

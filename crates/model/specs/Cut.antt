@@ -1,6 +1,8 @@
 -- How a request cuts the old mappings (document 01), what it hands the driver for them, what a byte address shows, and
 -- for how many bytes: of any list of mappings.
-use Rattle.model.specs.Prelude.{Bool, false, List, [], _∷_, _++_, map, ℕ, zero, suc, _+_, _-_, min, max, leb, ltb, eqb, ℤ, pos, negsuc, subℕ, Range, Space, Mapping, Request, Rests, Lower, Upper, Both, Operation, Map, Remap, Unmap, Shown, Object, Seen}
+use Rattle.model.specs.Prelude.{Bool, false, List, [], _∷_, _++_, map, ℕ, zero, suc, _+_, _-_, min, max, leb, ltb}
+use Rattle.model.specs.Prelude.{eqb, ℤ, pos, negsuc, subℕ, Range, Space, Mapping, Request, Rests, Lower, Upper}
+use Rattle.model.specs.Prelude.{Both, Operation, Map, Remap, Unmap, Shown, Object, Seen}
 use Rattle.model.specs.Rows.{all, choose}
 use Rattle.model.specs.Rules.{end, stop, apart}
 use Rattle.model.specs.Ranges.{bare, nearer, nextEdge}

@@ -1,7 +1,12 @@
 -- The papers' rules in words; their numbers are written out, but for the most mappings of a table. A call gives a
 -- line's answer exactly if its rule is broken and no line's above it.
-use Rattle.model.specs.Prelude.{_≡_, _⊎_, _↔_, List, [], _∷_, flatMap, List·Memᴰ, ℕ, suc, _+_, _*_, _/_, _%_, _^_, _≤_, _<_, pos, _-ℤ_, length, getD, take, replicate, Range, Space, Mapping, Request, Seen, Grant}
-use Rattle.model.specs.Calls.{Reply, refused, answered, mostMappings, end, stop, requestOf, recordOf, Table, mappings, written, badPlace, RangeList, ranges, rangeEnd, listWritten, operations, old, rests, Asking, numbers, bytes, asked, Lent, rangeOf, purpose, grantFor, bind, seeIn, lookup, checkRequest, verdictReply, decodedReply, answerReply, foundReply}
+use Rattle.model.specs.Prelude.{_≡_, _⊎_, _↔_, List, [], _∷_, flatMap, List·Memᴰ, ℕ, suc, _+_, _*_, _/_, _%_, _^_}
+use Rattle.model.specs.Prelude.{_≤_, _<_, pos, _-ℤ_, length, getD, take, replicate, Range, Space, Mapping}
+use Rattle.model.specs.Prelude.{Request, Seen, Grant}
+use Rattle.model.specs.Calls.{Reply, refused, answered, mostMappings, end, stop, requestOf, recordOf, Table}
+use Rattle.model.specs.Calls.{mappings, written, badPlace, RangeList, ranges, rangeEnd, listWritten, operations}
+use Rattle.model.specs.Calls.{old, rests, Asking, numbers, bytes, asked, Lent, rangeOf, purpose, grantFor, bind}
+use Rattle.model.specs.Calls.{seeIn, lookup, checkRequest, verdictReply, decodedReply, answerReply, foundReply}
 
 infix 40 _∈_ _⊆_
 abbrev pub Each : {A : Type 0} → (A → Type 0) → List A → Type 0

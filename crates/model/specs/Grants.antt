@@ -1,6 +1,11 @@
 -- What a grant does: demand 2 in terms of the public calls, and the operations as a driver takes them.
-use Rattle.model.specs.Prelude.{_≡_, _⊎_, _↔_, Bool, Option, none, some, Option·map, Option·bind, List, [], _∷_, _++_, flatMap, ℕ, _+_, _-_, _*_, _≤_, _<_, leb, ltb, eqb, length, getD, drop, replicate, Space, Mapping, Request, Rests, Lower, Upper, Both, Operation, Map, Remap, Unmap, Shown, Object, Grant}
-use Rattle.model.specs.Calls.{all, choose, answered, end, stop, Table, mappings, ranges, bare, operations, restsOf, old, rests, operationWords, translate, Asking, asked, Lent, bind, lentAfter, seeIn, lookup, shownReply}
+use Rattle.model.specs.Prelude.{_≡_, _⊎_, _↔_, Bool, Option, none, some, Option·map, Option·bind, List, [], _∷_}
+use Rattle.model.specs.Prelude.{_++_, flatMap, ℕ, _+_, _-_, _*_, _≤_, _<_, leb, ltb, eqb, length, getD, drop}
+use Rattle.model.specs.Prelude.{replicate, Space, Mapping, Request, Rests, Lower, Upper, Both, Operation, Map}
+use Rattle.model.specs.Prelude.{Remap, Unmap, Shown, Object, Grant}
+use Rattle.model.specs.Calls.{all, choose, answered, end, stop, Table, mappings, ranges, bare, operations}
+use Rattle.model.specs.Calls.{restsOf, old, rests, operationWords, translate, Asking, asked, Lent, bind}
+use Rattle.model.specs.Calls.{lentAfter, seeIn, lookup, shownReply}
 use Rattle.model.specs.Layout.{operationIn, listedOperation}
 use Rattle.model.specs.Exactly.{Each, _∈_, ShareByte, Ascends, TableRules, Unflagged, Agree, Pins}
 

@@ -1,6 +1,7 @@
 -- What a look-up tells of a byte address, what a driver uses that for, and a walk over a space from one answer's end to
 -- the next.
-use Rattle.model.specs.Prelude.{_≡_, _⊎_, List, [], _∷_, _++_, ℕ, zero, suc, _+_, _-_, _*_, _≤_, _<_, length, Range, Space, Mapping, Shown, Nothing, Sparse, Object, Seen}
+use Rattle.model.specs.Prelude.{_≡_, _⊎_, List, [], _∷_, _++_, ℕ, zero, suc, _+_, _-_, _*_, _≤_, _<_, length}
+use Rattle.model.specs.Prelude.{Range, Space, Mapping, Shown, Nothing, Sparse, Object, Seen}
 use Rattle.model.specs.Calls.{Reply, refused, answered, end, mappings, ranges, rangeEnd, Lent, lookup}
 use Rattle.model.specs.Exactly.{_∈_}
 

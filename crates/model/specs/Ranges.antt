@@ -1,6 +1,8 @@
 -- A list of sparse ranges in lent words (document 02, Item 7), the row of the refusal table that looks at it, what an
 -- address shows off all mappings and how far, and a list with one range more or less.
-use Rattle.model.specs.Prelude.{Bool, _||_, false, List, [], _∷_, _++_, flatMap, ℕ, zero, suc, _+_, _-_, _*_, _/_, _%_, min, leb, ltb, eqb, length, getD, drop, replicate, Range, Space, Shown, Nothing, Sparse}
+use Rattle.model.specs.Prelude.{Bool, _||_, false, List, [], _∷_, _++_, flatMap, ℕ, zero, suc, _+_, _-_, _*_, _/_}
+use Rattle.model.specs.Prelude.{_%_, min, leb, ltb, eqb, length, getD, drop, replicate, Range, Space, Shown}
+use Rattle.model.specs.Prelude.{Nothing, Sparse}
 use Rattle.model.specs.Rows.{all, choose, Row, row}
 use Rattle.model.specs.Rules.{aligned, apart}
 use Rattle.model.specs.Table.{zeroTests}

@@ -1,5 +1,6 @@
 -- A table of mappings in lent words (document 01: Table), and the rows of the refusal table that look at it.
-use Rattle.model.specs.Prelude.{Bool, List, [], _∷_, _++_, map, flatMap, ℕ, zero, suc, _+_, _-_, _*_, _/_, _%_, leb, ltb, eqb, length, getD, drop, replicate, Space, Mapping}
+use Rattle.model.specs.Prelude.{Bool, List, [], _∷_, _++_, map, flatMap, ℕ, zero, suc, _+_, _-_, _*_, _/_, _%_}
+use Rattle.model.specs.Prelude.{leb, ltb, eqb, length, getD, drop, replicate, Space, Mapping}
 use Rattle.model.specs.Rows.{all, choose, Row, row}
 use Rattle.model.specs.Rules.{mostMappings, end, mappingTests, spaceRow}
 

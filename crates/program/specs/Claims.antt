@@ -6,7 +6,8 @@ use Rattle.model.specs.Calls.{refused, answered, mappings, operations, byNumber
 use Rattle.model.specs.Exactly.{Each, _∈_, SpaceRules, Pins}
 use Rattle.program.specs.Prelude.{Space, Request, Seen, Grant}
 use Rattle.program.specs.Text.{ascii, decimal}
-use Rattle.program.specs.Script.{recordAt, requestIn, operationsIn, State, emptied, granted, shows, refusal, step, lines, run, start, output, responseTold}
+use Rattle.program.specs.Script.{recordAt, requestIn, operationsIn, State, emptied, granted, shows, refusal, step}
+use Rattle.program.specs.Script.{lines, run, start, output, responseTold}
 use Rattle.program.specs.declared.ScriptRecord.{ScriptRecord}
 use Rattle.program.specs.declared.ScriptRecord.the-variants.{SetSpace, Bind, LookUp, OtherMark, Cut, End}
 
@@ -169,7 +170,8 @@ scripts =
     -- is
     ∷ (
       setSpaceBytes 0 65536 0 0 ++ (sparseBytes 0 4096 12288 ++ (numbersBytes 0 7 8192 0 4096 ++ (lookUpBytes 4096 ++ (lookUpBytes 12288
-          ++ (sparseBytes 1 4096 12288 ++ (sparseBytes 0 0 8192 ++ (numbersBytes 1 0 8192 0 4096 ++ (lookUpBytes 8192 ++ (sparseBytes 1 4096 12288 ++ lookUpBytes 8192))))))))),
+          ++ (sparseBytes 1 4096 12288 ++ (sparseBytes 0 0 8192 ++ (numbersBytes 1 0 8192 0 4096 ++ (lookUpBytes 8192
+          ++ (sparseBytes 1 4096 12288 ++ lookUpBytes 8192))))))))),
       "space 256\ngranted 0 0\ngranted 1 1\nmap 8192 4096 7 0\nat 4096 sparse 4096\nat 12288 sparse 4096\nrefused 20\nrefused 19\ngranted 1 0\nunmap 8192 4096 7 0 keep 0\nat 8192 sparse 8192\ngranted 0 0\nat 8192 none 57344\n",
     )
     ∷ []

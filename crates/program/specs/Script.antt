@@ -6,12 +6,15 @@ use Rattle.model.specs.Rows.{choose, Reply, refused, answered, decide}
 use Rattle.model.specs.Rules.{spaceRow}
 use Rattle.model.specs.Table.{capacity, mappings}
 use Rattle.model.specs.Cut.{operations}
-use Rattle.model.specs.Calls.{littleEndian, requestOf, recordBytes, spaceOf, bytes, Lent, Purpose, cuts, adds, removes, purpose, Outcome, bind, lentAfter, lookup, numbered}
+use Rattle.model.specs.Calls.{littleEndian, requestOf, recordBytes, spaceOf, bytes, Lent, Purpose, cuts, adds, removes}
+use Rattle.model.specs.Calls.{purpose, Outcome, bind, lentAfter, lookup, numbered}
 use Rattle.program.specs.Text.{line, operationLines, seenLine}
 use Rattle.program.specs.declared.ScriptRecord.{ScriptRecord}
 use Rattle.program.specs.declared.ScriptRecord.the-variants.{SetSpace, Bind, LookUp, OtherMark, Cut, End}
 use Rattle.program.specs.declared.Response.{Response}
-use Rattle.program.specs.declared.Response.the-variants.{Emptied, Granted, Shows, Refused, OtherMark as MarkResponse, Cut as CutResponse, End as EndResponse}
+use Rattle.program.specs.declared.Response.the-variants.{Emptied, Granted, Shows, Refused}
+use Rattle.program.specs.declared.Response.the-variants.{OtherMark as MarkResponse, Cut as CutResponse}
+use Rattle.program.specs.declared.Response.the-variants.{End as EndResponse}
 
 -- ── what stands at the front of the bytes ──
 

@@ -94,7 +94,8 @@ pub record Goes (p : Progress) (rs ws os bs : List ℕ) (last : Bool) (out : Lis
   pub text : List ℕ
   pub bytes : out' ≡ stored out at text
   pub behind : t .end ≡ at + length text
-  pub goes-on : (more : List ℕ) → (last ≡ true → more ≡ []) → toCome p rs ws os (bs ++ more) ≡ text ++ toCome (t .progress) rs' ws' os' (drop (t .taken) bs ++ more)
+  pub goes-on : (more : List ℕ) → (last ≡ true → more ≡ [])
+      → toCome p rs ws os (bs ++ more) ≡ text ++ toCome (t .progress) rs' ws' os' (drop (t .taken) bs ++ more)
   pub state : (more : List ℕ) → leaves (heldBy p rs ws os) (take (t .taken) bs ++ more) ≡ leaves (heldBy (t .progress) rs' ws' os') more
   pub within : t .taken ≤ length bs
   pub place : t .progress .place ≡ p .place + t .taken
