@@ -64,6 +64,41 @@ impl List {
     }
 }
 
+/// Every way to put ranges into so many pages from 0 on: each page is free, starts one, or
+/// continues one.
+pub fn every_list(pages: u32) -> impl Iterator<Item = Vec<SparseRange>> {
+    (0..3u64.pow(pages)).filter_map(move |index| {
+        let mut ranges: Vec<SparseRange> = Vec::new();
+        let mut open = false;
+        for page in 0..pages {
+            match index / 3u64.pow(page) % 3 {
+                0 => open = false,
+                1 => {
+                    open = true;
+                    ranges.push(SparseRange {
+                        start: u64::from(page) * PAGE,
+                        size: PAGE,
+                    });
+                }
+                _ => ranges.last_mut().filter(|_| open)?.size += PAGE,
+            }
+        }
+        Some(ranges)
+    })
+}
+
+/// Mappings of the same ranges. They show these objects by turns, without a break between those of
+/// one object.
+pub fn mappings_at(ranges: &[SparseRange], objects: [u64; 2]) -> Vec<Mapping> {
+    let mapping = |(place, range): (usize, &SparseRange)| Mapping {
+        address: range.start,
+        size: range.size,
+        object: objects[place % 2],
+        offset: range.start + PAGE,
+    };
+    ranges.iter().enumerate().map(mapping).collect()
+}
+
 /// Addresses at which a range may begin or end: both ends of a part of the space, and between them
 /// ends of mappings, pages beside those, and any.
 fn some_edges(

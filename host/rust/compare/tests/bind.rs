@@ -2,7 +2,7 @@
 
 use waylluqen_compare::calls::{Asking, Caller};
 use waylluqen_compare::library::{Bound, ByNumber, NUMBERS};
-use waylluqen_compare::lists::{good_list, Faults, List};
+use waylluqen_compare::lists::{every_list, good_list, mappings_at, Faults, List};
 use waylluqen_compare::marks::Marks;
 use waylluqen_compare::near::{disturb, near_record, widen};
 use waylluqen_compare::numbers::{space_of, LIMIT};
@@ -14,7 +14,7 @@ use waylluqen_compare::tables::{
 };
 use waylluqen_model::bind::{least_operation_words, KIND_MAP};
 use waylluqen_model::random::Random;
-use waylluqen_model::{space_holds, Grant, Mapping, Operation, Record, Request, Space};
+use waylluqen_model::{space_holds, Grant, Operation, Record, Request, Space};
 use waylluqen_model::{MAP, MAPPING_WORDS, MOST_MAPPINGS, PAGE, RANGE_WORDS, SPARSE, UNMAP};
 
 /// Compares, and counts how often each answer and each kind of cut came.
@@ -444,31 +444,6 @@ fn page_by_page() {
     tally.assert_marks(50);
 }
 
-/// Every way to put mappings into so many pages: each page is free, starts one, or continues one.
-/// They show these objects by turns, without a break between those of one object.
-fn every_table(pages: u32, objects: [u64; 2]) -> impl Iterator<Item = Vec<Mapping>> {
-    (0..3u64.pow(pages)).filter_map(move |index| {
-        let mut mappings: Vec<Mapping> = Vec::new();
-        let mut open = false;
-        for page in 0..pages {
-            match index / 3u64.pow(page) % 3 {
-                0 => open = false,
-                1 => {
-                    open = true;
-                    mappings.push(Mapping {
-                        address: u64::from(page) * PAGE,
-                        size: PAGE,
-                        object: objects[mappings.len() % 2],
-                        offset: u64::from(page + 1) * PAGE,
-                    });
-                }
-                _ => mappings.last_mut().filter(|_| open)?.size += PAGE,
-            }
-        }
-        Some(mappings)
-    })
-}
-
 /// Every range of so many pages with each kind of request, followed page by page. One of the maps
 /// goes on as the mappings of its object do.
 fn check_ranges(tally: &mut Tally, table: &Table, pages: u64) {
@@ -503,8 +478,9 @@ fn every_table_of_six_pages() {
     let mut random = Random::new(140);
     let mut tally = Tally::new(141);
     let space = space_of([0, PAGES * PAGE, 0, 0]);
-    let of_one = every_table(PAGES as u32, [7, 7]);
-    for mappings in of_one.chain(every_table(PAGES as u32, [7, 8])) {
+    let of_one = every_list(PAGES as u32).map(|ranges| mappings_at(&ranges, [7, 7]));
+    let of_two = every_list(PAGES as u32).map(|ranges| mappings_at(&ranges, [7, 8]));
+    for mappings in of_one.chain(of_two) {
         for spare in 0..=2 {
             let good = Good {
                 space,

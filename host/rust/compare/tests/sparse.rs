@@ -4,7 +4,7 @@
 use waylluqen::Ranges;
 use waylluqen_compare::calls::{model_answer, model_look, Asking, Caller, Way};
 use waylluqen_compare::library::{self, Bound, ByNumber};
-use waylluqen_compare::lists::List;
+use waylluqen_compare::lists::{every_list, mappings_at, List};
 use waylluqen_compare::near::{narrow_record, near_record, near_sparse_record};
 use waylluqen_compare::numbers::{space_of, LIMIT};
 use waylluqen_compare::paging::{assert_pages, assert_painted};
@@ -199,38 +199,6 @@ fn histories_with_long_lists() {
         .all(|&number| answers.flagged[number] >= 20));
 }
 
-/// Every way to put ranges into so many pages from the space's start on: each page is free, starts
-/// one, or continues one.
-fn every_range_list(pages: u32) -> Vec<Vec<SparseRange>> {
-    let list = |index: u64| {
-        let mut ranges: Vec<SparseRange> = Vec::new();
-        let mut open = false;
-        for page in 0..pages {
-            match index / 3u64.pow(page) % 3 {
-                0 => open = false,
-                1 => {
-                    open = true;
-                    ranges.push(range(u64::from(page) * PAGE, PAGE));
-                }
-                _ => ranges.last_mut().filter(|_| open)?.size += PAGE,
-            }
-        }
-        Some(ranges)
-    };
-    (0..3u64.pow(pages)).filter_map(list).collect()
-}
-
-/// Mappings of the same ranges, that show one object without a break.
-fn mappings_at(ranges: &[SparseRange]) -> Vec<Mapping> {
-    let mapping = |&SparseRange { start, size }: &SparseRange| Mapping {
-        address: start,
-        size,
-        object: 7,
-        offset: start + PAGE,
-    };
-    ranges.iter().map(mapping).collect()
-}
-
 /// Each request with the flag for some of the pages, each way by turns, followed page by page.
 fn ask_flagged(caller: &mut Caller, answers: &mut Answers, table: &Table, pages: u64) {
     let mut turn = 0;
@@ -267,14 +235,14 @@ fn every_list_and_table_of_four_pages() {
     const PAGES: u32 = 4;
     let mut caller = Caller::new(721);
     let (mut answers, mut sights) = (Answers::default(), Sights::default());
-    let all = every_range_list(PAGES);
+    let all: Vec<_> = every_list(PAGES).collect();
     for ranges in &all {
         for mapped in &all {
             for spare in [0, 1] {
                 let mut good = Good {
                     space: space_of([0, u64::from(PAGES) * PAGE, 0, 0]),
                     list: List::of(ranges, ranges.len() + spare),
-                    mappings: mappings_at(mapped),
+                    mappings: mappings_at(mapped, [7, 7]),
                 };
                 let table = good.table(1);
                 ask_flagged(&mut caller, &mut answers, &table, PAGES.into());
