@@ -1,6 +1,5 @@
 -- An operation in words (document 01: an operation is 14 words), and the operation that 14 words say.
-use Rattle.model.specs.Prelude.{Bool, true, false, Option, none, some, List, [], _∷_, _++_, ℕ, zero, suc, eqb}
-use Rattle.model.specs.Prelude.{getD, Mapping, Rests, Lower, Upper, Both, Operation, Map, Remap, Unmap}
+use Rattle.model.specs.Prelude.{Bool, true, false, Option, none, some, List, [], _∷_, _++_, ℕ, zero, suc, eqb, getD, Mapping, Rests, Lower, Upper, Both, Operation, Map, Remap, Unmap}
 use Rattle.model.specs.Rows.{all, choose}
 use Rattle.model.specs.Table.{mappingFrom, wordsOf}
 use Rattle.model.specs.declared.Listed.{Listed}
