@@ -4,32 +4,32 @@ use mathlib.Core.Path.{_≡_, refl, sym, ap, subst, _∙_}
 use mathlib.Core.Logic.{_⊎_, _↔_, inl, inr}
 use mathlib.Core.List.{List, [], _∷_, _++_, flatMap, append-nil, List·Memᴰ·head, List·Memᴰ·tail}
 use Prim.Native.Nat.{ℕ, zero, suc, _+_, _≤_, _<_}
+use lib.Dec.{leb}
 use native.Mathlib.Omega.{arith}
 use lib.ListN.{length}
 use Rattle.model.specs.Prelude.{Space, Mapping, Request, Seen, Grant}
 use Rattle.model.specs.Rows.{Row, Reply, refused, answered, decide, numberOf}
-use Rattle.model.specs.Rules.{requestRows}
-use Rattle.model.specs.Table.{mappings, operationsRow}
+use Rattle.model.specs.Rules.{sparseFlag, spaceRow, formRows, requestRows}
+use Rattle.model.specs.Table.{capacity, mappings, operationsRow}
 use Rattle.model.specs.Cut.{new, after, operations, old, rests}
 use Rattle.model.specs.Calls.{Asking, numbers, bytes, asked, recordRow, Lent, lentRows, Purpose, cuts, adds, removes, purposeFor, purpose, rangeOf, ranges, overlapTests, removalTests, roomTests, lastRows, bindRows, grantFor, outcomeFor, bind, seeIn, lookup, checkRows, checkRequest, requestOf, recordRows}
-use Rattle.model.specs.Exactly.{_∈_, RefusalTable, otherwise, Gives, checkRefusals, refusal, WellFormed, operationsLine, RoomRule, OverlapRule, RemovalRule, RoomRules, bindRefusals, lookupRefusals, TableRules, Exactly}
+use Rattle.model.specs.Exactly.{_∈_, SpaceRules, RefusalTable, line, otherwise, Gives, SparseToo, requestLines, checkRefusals, refusal, WellFormed, lentLines, operationsLine, RoomRule, OverlapRule, RemovalRule, RoomRules, lastLines, bindRefusals, lookupRefusals, TableRules, Exactly}
 use Rattle.model.proofs.Tests.{tests, Alls, Says}
 use Rattle.model.proofs.Rows.{Match, match-gives, gives-one, not-both}
 use Rattle.model.proofs.Numbers.{order}
 use Rattle.model.proofs.New.{new-map, new-unmap}
+use Rattle.model.proofs.Run.{Run}
 use Rattle.model.proofs.Counts.{count-rule}
 use Rattle.model.proofs.Rules.{Flags, space-says}
 use Rattle.model.proofs.Ranges.{listed-says, ranges-apart, mappings-apart}
 use Rattle.model.proofs.Table.{rules-run, lowest}
-use Rattle.model.proofs.Store.{length-mappings}
-use Rattle.model.proofs.Groups.{form-match, request-match, lent-match, operations-match}
-use Rattle.model.proofs.Plain.{roomRow}
+use Rattle.model.proofs.Groups.{sparse-too, form-match, request-match, lent-match, operations-match}
 
 -- an answer is b exactly if the table gives b
-abbrev Answers : {B : Type 0} → B → RefusalTable B → Type 0
+abbrev pub Answers : {B : Type 0} → B → RefusalTable B → Type 0
 Answers {B} answer t = (b : B) → (answer ≡ b) ↔ Gives t b
 
-match-answers : {A B : Type 0} (f : Reply A → B) (a : A) (ws : List Row) (t : RefusalTable B) → Match f a ws t → Answers (f (decide ws a)) t
+pub match-answers : {A B : Type 0} (f : Reply A → B) (a : A) (ws : List Row) (t : RefusalTable B) → Match f a ws t → Answers (f (decide ws a)) t
 match-answers f a ws t m b =
     let g : Gives t (f (decide ws a)) = match-gives f a ws t m in
     (λ e. subst (Gives t) e g, λ h. gives-one t g h)
@@ -37,12 +37,13 @@ match-answers f a ws t m b =
 -- ── the request check ──
 
 of-check : (bs : List ℕ) (s : Space) → Answers (checkRequest bs s) (checkRefusals bs s)
-unfolding checkRequest checkRows recordRows requestRows
+unfolding checkRequest checkRows recordRows formRows requestRows
 of-check bs s = match-answers numberOf (tt {0}) (checkRows bs s) (checkRefusals bs s) (
   refl,
   (λ h. omega tests, λ h. omega tests),
-  λ _. form-match numberOf (tt {0}) (λ n. n) (λ n. refl) (requestOf bs) _ _
-      (λ op flags. (refl, space-says s, λ _. request-match numberOf (tt {0}) (λ n. n) (λ n. refl) s (requestOf bs) [] (otherwise 0) op flags (λ _. refl))),
+  λ _. form-match numberOf (tt {0}) 0 (λ n. n) (λ n. refl) sparseFlag SparseToo (requestOf bs) (sparse-too (requestOf bs))
+      (spaceRow s ∷ requestRows s (requestOf bs)) (line 1 (SpaceRules s) (requestLines (λ n. n) s (requestOf bs) (otherwise 0)))
+      (λ op flags. (refl, space-says s, λ _. request-match numberOf (tt {0}) 0 (λ n. n) (λ n. refl) s (requestOf bs) [] (otherwise 0) op flags (λ _. refl))),
 )
 
 -- ── map and unmap ──
@@ -52,32 +53,26 @@ record-says (numbers op address size object offset) = (λ h. tt, λ h. tt)
 record-says (bytes bs) = (λ h. omega tests, λ h. omega tests)
 
 -- document 01's count afterwards is the count of the table after
-room-says : (s : Space) (l : Lent) (r : Request) → TableRules s (mappings (l .table)) → r .op < 2 → 0 < r .size
-    → Says (roomRow l r .tests) (RoomRule r (l .table))
-room-says s l r h k z = (
+pub room-says : (capacity : ℕ) (r : Request) (ms : List Mapping) → Run 0 ms → r .op < 2 → 0 < r .size
+    → Says (leb (length (after r ms)) capacity ∷ []) (RoomRule r capacity ms)
+room-says capacity r ms run k z = (
   λ room. record {
-    for-map = λ o. omega (tests, room, e, n, ap length (new-map r o));
-    for-unmap = λ o. omega (tests, room, e, n, ap length (new-unmap r (λ p. omega (tests, o, p))));
+    for-map = λ o. omega (tests, room, e, ap length (new-map r o));
+    for-unmap = λ o. omega (tests, room, e, ap length (new-unmap r (λ p. omega (tests, o, p))));
   },
   λ rule. by-op (order (r .op) 0) rule,
 )
   where
-    ms : List Mapping
-    ms = mappings (l .table)
-
     e : length (after r ms) + length (flatMap old (operations r ms)) ≡ length ms + length (flatMap rests (operations r ms)) + length (new r)
-    e = count-rule r ms (rules-run s ms h) z
+    e = count-rule r ms run z
 
-    n : length ms ≡ l .table .count
-    n = length-mappings (l .table .count) (l .table .words)
-
-    by-op : (r .op ≤ 0) ⊎ (0 < r .op) → RoomRule r (l .table) → Alls (roomRow l r .tests)
+    by-op : (r .op ≤ 0) ⊎ (0 < r .op) → RoomRule r capacity ms → Alls (leb (length (after r ms)) capacity ∷ [])
     by-op (inl o) rule =
         let p : r .op ≡ 0 = omega tests in
-        omega (tests, rule .for-map p, e, n, ap length (new-map r p))
+        omega (tests, rule .for-map p, e, ap length (new-map r p))
     by-op (inr o) rule =
         let p : r .op ≡ 1 = omega tests in
-        omega (tests, rule .for-unmap p, e, n, ap length (new-unmap r (λ q. omega (tests, o, q))))
+        omega (tests, rule .for-unmap p, e, ap length (new-unmap r (λ q. omega (tests, o, q))))
 
 -- what a request is for, in the words of its flags and op
 pub data For (r : Request) : Purpose → Type 0 where
@@ -111,22 +106,25 @@ module _ (s : Space) (l : Lent) (r : Request) where
 
   rooms-say : {for : Purpose} → TableRules s (mappings (l .table)) → r .op < 2 → 0 < r .size → For r for → Says (roomTests for r l) (RoomRules r l)
   rooms-say five op six (for-table f) =
-      let k = room-says s l r five op six in
+      let k = room-says (capacity (l .table)) r (mappings (l .table)) (rules-run s (mappings (l .table)) five) op six in
       (λ h. (λ _. k .0 h, λ g. absurd (omega (arith, f, g))), λ h. k .1 (h .0 f))
   rooms-say five op six (for-adding f o) = (λ h. (λ g. absurd (omega (arith, f, g)), λ _ _. omega (tests, h)), λ h. omega (tests, h .1 f o))
   rooms-say five op six (for-removing f o) = (λ h. (λ g. absurd (omega (arith, f, g)), λ _ p. absurd (omega (arith, o, p))), λ _. tt)
 
 of-rows : (s : Space) (l : Lent) (n : ℕ) (q : Asking) → Answers (decide (bindRows s l n q) (grantFor (purpose (asked q)) (asked q) l)) (bindRefusals s l n q)
-unfolding bindRows
+unfolding bindRows formRows requestRows
 of-rows s l n q =
     let r : Request = asked q in
     let g : Grant = grantFor (purpose r) r l in
+    let between : List Row = operationsRow n (l .table) ∷ [] in
+    let behind : List Row = requestRows s r ++ lastRows (purpose r) r l in
+    let lines : RefusalTable (Reply Grant) = requestLines refusal s r (lastLines r l (otherwise (answered g))) in
     match-answers (λ a. a) g (bindRows s l n q) (bindRefusals s l n q) (
       record-number q,
       record-says q,
-      λ _. form-match (λ a. a) g refusal (λ n. refl) r _ _ (λ op flags.
-          lent-match g s l (operationsRow n (l .table) ∷ []) (operationsLine n (l .table)) (operations-match g n (l .table)) _ _ (λ five.
-          request-match (λ a. a) g refusal (λ n. refl) s r (lastRows (purpose r) r l) _ op flags
+      λ _. form-match (λ a. a) g 0 refusal (λ n. refl) sparseFlag SparseToo r (sparse-too r) (lentRows s between l ++ behind) (lentLines s (operationsLine n (l .table)) l lines) (λ op flags.
+          lent-match g s l between (operationsLine n (l .table)) (operations-match g n (l .table)) behind lines (λ five.
+          request-match (λ a. a) g 0 refusal (λ n. refl) s r (lastRows (purpose r) r l) (lastLines r l (otherwise (answered g))) op flags
           (λ six. let for = is-for r op flags in
           (refl, overlap-says s l r for, λ _. (refl, removal-says s l r for, λ _. (refl, rooms-say s l r five op six for, λ _. refl)))))),
     )

@@ -7,12 +7,12 @@ use mathlib.Core.List.{List, [], _∷_, _++_, append-assoc}
 use Prim.Native.Nat.{ℕ, _<_}
 use lib.Dec.{eqb, eqb→eq}
 use Rattle.model.specs.Prelude.{Space, Request}
-use Rattle.model.specs.Rows.{Row, Reply, refused}
+use Rattle.model.specs.Rows.{Row, placed, Reply, refused}
 use Rattle.model.specs.Rules.{spaceTests, spaceRow, opRow, flagsRow, alignmentRow, insideRow, reservationRow, objectRow, offsetRow, formRows, requestRows}
 use Rattle.model.specs.Table.{Table, mappings, lengthRow, operationsRow, countRow, mappingsRow, staleRow, contentRows, tableRows}
 use Rattle.model.specs.Ranges.{listRow}
 use Rattle.model.specs.Calls.{sparseFlag, Lent, lentRows}
-use Rattle.model.specs.Exactly.{Each, RefusalTable, line, formLines, requestLines, contentLines, tableLines, lentLines, operationsLine, refusal, TableRules, ListRules}
+use Rattle.model.specs.Exactly.{Each, RefusalTable, line, SparseToo, formLines, requestLines, contentLines, tableLines, lentLines, operationsLine, refusal, TableRules, ListRules}
 use Rattle.model.proofs.Tests.{tests, Alls, Says, or-cases, or-left, or-right, eq→eqb}
 use Rattle.model.proofs.Actions.{each-append}
 use Rattle.model.proofs.Rows.{Passed, passed-split, passed-join, Match}
@@ -22,8 +22,8 @@ use Rattle.model.proofs.Zeros.{stale-says}
 use Rattle.model.proofs.Ranges.{list-row-says}
 
 -- flags 0 and the sparse flag are let through
-flags-say : (r : Request) → Says (flagsRow sparseFlag r .tests) (Flags r × (r .pad ≡ 0))
-flags-say r = (
+pub sparse-too : (r : Request) → Says (flagsRow sparseFlag r .tests) (SparseToo (r .flags) × (r .pad ≡ 0))
+sparse-too r = (
   λ h. (elim (or-cases (eqb (r .flags) 0) (eqb (r .flags) 256) (h .0)) [ inl e ↦ inl (eqb→eq _ 0 e) | inr e ↦ inr (eqb→eq _ 256 e) ], omega (tests, h .1)),
   λ h. (
     elim (h .0) [
@@ -34,20 +34,21 @@ flags-say r = (
   ),
 )
 
--- ── rows and lines, f being how an answer is read ──
+-- ── rows and lines, f being how an answer is read, and p the place of the request; a single one's is 0 ──
 
-module _ {A B : Type 0} (f : Reply A → B) (a : A) (refuse : ℕ → B) (reads : (n : ℕ) → f (refused n 0) ≡ refuse n) where
-  pub form-match : (r : Request) (ws : List Row) (t : RefusalTable B) → (r .op < 2 → Flags r → Match f a ws t)
-      → Match f a (formRows sparseFlag r ++ ws) (formLines refuse r t)
+module _ {A B : Type 0} (f : Reply A → B) (a : A) (p : ℕ) (refuse : ℕ → B) (reads : (n : ℕ) → f (refused n p) ≡ refuse n) where
+  pub form-match : (served : ℕ) (Served : ℕ → Type 0) (r : Request) → Says (flagsRow served r .tests) (Served (r .flags) × (r .pad ≡ 0))
+      → (ws : List Row) (t : RefusalTable B) → (r .op < 2 → Served (r .flags) → Match f a ws t)
+      → Match f a (placed p (formRows served r) ++ ws) (formLines refuse Served r t)
   unfolding formRows
-  form-match r ws t rest = (
+  form-match served Served r flags ws t rest = (
     reads 13,
     (λ h. omega tests, λ h. omega tests),
-    λ op. (reads 14, flags-say r, λ h. rest op (h .0)),
+    λ op. (reads 14, flags, λ h. rest op (h .0)),
   )
 
   pub request-match : (s : Space) (r : Request) (ws : List Row) (t : RefusalTable B) → r .op < 2 → Flags r → (0 < r .size → Match f a ws t)
-      → Match f a (requestRows s r ++ ws) (requestLines refuse s r t)
+      → Match f a (placed p (requestRows s r) ++ ws) (requestLines refuse s r t)
   unfolding requestRows
   request-match s r ws t op flags rest = (
     reads 6,

@@ -8,7 +8,7 @@ use Rattle.model.specs.Rows.{Reply, refused, answered}
 use Rattle.model.specs.Calls.{numbered, verdictReply, decodedReply, answerReply, foundReply}
 use Rattle.model.specs.Exactly.{Pins, Pinned}
 use Rattle.model.specs.declared.Refusal.{Refusal}
-use Rattle.model.specs.declared.Refusal.the-variants.{BadSpace, BadTableLength, ShortOperations, BadCount, BadMapping, Unaligned, OutsideSpace, Reserved, BadObject, BadOffset, NoRoom, BadRecordLength, BadOp, BadFlags, StaleWords, BadRanges, RangeOverlaps, NoSuchRange}
+use Rattle.model.specs.declared.Refusal.the-variants.{BadSpace, BadTableLength, ShortOperations, BadCount, BadMapping, Unaligned, OutsideSpace, Reserved, BadObject, BadOffset, NoRoom, BadRecordLength, BadOp, BadFlags, BadWorkLength, ShortOutput, StaleWords, BadRanges, RangeOverlaps, NoSuchRange}
 use Rattle.model.specs.declared.Verdict.{Verdict}
 use Rattle.model.specs.declared.Verdict.the-variants.{Pass, Refuse as VerdictRefuse}
 use Rattle.model.specs.declared.Decoded.{Decoded}
@@ -22,9 +22,8 @@ abbrev pub refusals : ℕ → List Refusal
 refusals p =
     BadSpace ∷ BadTableLength ∷ ShortOperations ∷ BadCount ∷ BadMapping p
     ∷ Unaligned ∷ OutsideSpace ∷ Reserved ∷ BadObject ∷ BadOffset ∷ NoRoom
-    ∷ BadRecordLength ∷ BadOp ∷ BadFlags
-    -- nothing is refused by 15 and 16 yet
-    ∷ BadSpace ∷ BadSpace ∷ StaleWords ∷ BadRanges ∷ RangeOverlaps ∷ NoSuchRange ∷ []
+    ∷ BadRecordLength ∷ BadOp ∷ BadFlags ∷ BadWorkLength ∷ ShortOutput
+    ∷ StaleWords ∷ BadRanges ∷ RangeOverlaps ∷ NoSuchRange ∷ []
 
 abbrev pub named : ℕ → ℕ → Refusal
 named n p = getD (refusals p) (n - 1) BadSpace
@@ -44,6 +43,8 @@ named-numbered NoRoom = refl
 named-numbered BadRecordLength = refl
 named-numbered BadOp = refl
 named-numbered BadFlags = refl
+named-numbered BadWorkLength = refl
+named-numbered ShortOutput = refl
 named-numbered StaleWords = refl
 named-numbered BadRanges = refl
 named-numbered RangeOverlaps = refl

@@ -11,7 +11,8 @@ use Rattle.model.specs.declared.Refusal.{Refusal}
 use Rattle.model.specs.declared.Refusal.the-variants.{BadSpace, BadTableLength, ShortOperations, BadCount}
 use Rattle.model.specs.declared.Refusal.the-variants.{BadMapping, Unaligned, OutsideSpace, Reserved, BadObject}
 use Rattle.model.specs.declared.Refusal.the-variants.{BadOffset, NoRoom, BadRecordLength, BadOp, BadFlags}
-use Rattle.model.specs.declared.Refusal.the-variants.{StaleWords, BadRanges, RangeOverlaps, NoSuchRange}
+use Rattle.model.specs.declared.Refusal.the-variants.{BadWorkLength, ShortOutput, StaleWords, BadRanges}
+use Rattle.model.specs.declared.Refusal.the-variants.{RangeOverlaps, NoSuchRange}
 use Rattle.model.specs.declared.Verdict.{Verdict}
 use Rattle.model.specs.declared.Verdict.the-variants.{Pass, Refuse as VerdictRefuse}
 use Rattle.model.specs.declared.Decoded.{Decoded}
@@ -248,6 +249,8 @@ numbered NoRoom = (11, 0)
 numbered BadRecordLength = (12, 0)
 numbered BadOp = (13, 0)
 numbered BadFlags = (14, 0)
+numbered BadWorkLength = (15, 0)
+numbered ShortOutput = (16, 0)
 numbered StaleWords = (17, 0)
 numbered BadRanges = (18, 0)
 numbered RangeOverlaps = (19, 0)

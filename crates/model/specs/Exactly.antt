@@ -86,11 +86,16 @@ abbrev pub Gives : {A : Type 0} → RefusalTable A → A → Type 0
 Gives (line n Rule rest) a = ((Rule → ⊥) × (a ≡ n)) ⊎ (Rule × Gives rest a)
 Gives (otherwise n) a = a ≡ n
 
--- 13 and 14; 6 to 10. `refuse` is how the call answers a number. Flag 256 is let through; such a request has no object
--- and no offset
-abbrev pub formLines : {A : Type 0} → (ℕ → A) → Request → RefusalTable A → RefusalTable A
-formLines refuse r rest =
-    line (refuse 13) (r .op < 2) (line (refuse 14) (((r .flags ≡ 0) ⊎ (r .flags ≡ 256)) × (r .pad ≡ 0)) rest)
+-- 13 and 14; 6 to 10. `refuse` is how the call answers a number, `Served` which flags it lets through: none, or 256
+-- too; a request with that flag has no object and no offset
+abbrev pub formLines : {A : Type 0} → (ℕ → A) → (ℕ → Type 0) → Request → RefusalTable A → RefusalTable A
+formLines refuse Served r rest = line (refuse 13) (r .op < 2) (line (refuse 14) (Served (r .flags) × (r .pad ≡ 0)) rest)
+
+abbrev pub NoFlag : ℕ → Type 0
+NoFlag flags = flags ≡ 0
+
+abbrev pub SparseToo : ℕ → Type 0
+SparseToo flags = (flags ≡ 0) ⊎ (flags ≡ 256)
 
 abbrev pub NoObject : Request → Type 0
 NoObject r = (r .object ≡ 0) × (r .offset ≡ 0)
@@ -105,7 +110,7 @@ requestLines refuse s r rest =
 
 abbrev pub checkRefusals : List ℕ → Space → RefusalTable ℕ
 checkRefusals bs s =
-    line 12 (length bs ≡ 40) (formLines (λ n. n) (requestOf bs) (line 1 (SpaceRules s) (requestLines (λ n. n) s (requestOf bs) (otherwise 0))))
+    line 12 (length bs ≡ 40) (formLines (λ n. n) SparseToo (requestOf bs) (line 1 (SpaceRules s) (requestLines (λ n. n) s (requestOf bs) (otherwise 0))))
 
 -- a refusal at place 0
 abbrev pub refusal : {A : Type 0} → ℕ → Reply A
@@ -147,12 +152,10 @@ lentLines s between l rest = tableLines s between (l .table) (line (refusal 18) 
 abbrev pub operationsLine : {A : Type 0} → ℕ → Table → RefusalTable (Reply A) → RefusalTable (Reply A)
 operationsLine n t rest = line (refusal 3) ((length (t .words) / 4 + 1) * 14 ≤ n) rest
 
--- 11: count - hit + lower rests + upper rests + (1 for a map) is within capacity
-pub record RoomRule (r : Request) (t : Table) : Type 0 where
-  pub for-map : r .op ≡ 0 → t .count + length (flatMap rests (operations r (mappings t))) + 1
-      ≤ length (t .words) / 4 + length (flatMap old (operations r (mappings t)))
-  pub for-unmap : r .op ≡ 1 → t .count + length (flatMap rests (operations r (mappings t)))
-      ≤ length (t .words) / 4 + length (flatMap old (operations r (mappings t)))
+-- 11: count - hit + lower rests + upper rests + (1 for a map) is within capacity, the mappings being ms
+pub record RoomRule (r : Request) (capacity : ℕ) (ms : List Mapping) : Type 0 where
+  pub for-map : r .op ≡ 0 → length ms + length (flatMap rests (operations r ms)) + 1 ≤ capacity + length (flatMap old (operations r ms))
+  pub for-unmap : r .op ≡ 1 → length ms + length (flatMap rests (operations r ms)) ≤ capacity + length (flatMap old (operations r ms))
 
 -- 19: a map with the flag shares no byte with a range. 20: an unmap with the flag names a range, exactly, and no mapping
 -- shares a byte with it. 11: the table has room, for a request without the flag; the list, for a map with it
@@ -165,18 +168,20 @@ RemovalRule r l = r .flags ≡ 256 → r .op ≡ 1
     → (rangeOf r ∈ ranges (l .ranges)) × Each (λ m. ShareByte (m .address) (end m) (r .address) (stop r) → ⊥) (mappings (l .table))
 
 abbrev pub RoomRules : Request → Lent → Type 0
-RoomRules r l = (r .flags ≡ 0 → RoomRule r (l .table)) × (r .flags ≡ 256 → r .op ≡ 0 → l .ranges .count < length (l .ranges .words) / 2)
+RoomRules r l = (r .flags ≡ 0 → RoomRule r (length (l .table .words) / 4) (mappings (l .table)))
+    × (r .flags ≡ 256 → r .op ≡ 0 → l .ranges .count < length (l .ranges .words) / 2)
+
+abbrev pub lastLines : {A : Type 0} → Request → Lent → RefusalTable (Reply A) → RefusalTable (Reply A)
+lastLines r l rest = line (refusal 19) (OverlapRule r l) (line (refusal 20) (RemovalRule r l) (line (refusal 11) (RoomRules r l) rest))
 
 abbrev pub bindRefusals : Space → Lent → ℕ → Asking → RefusalTable (Reply Grant)
 bindRefusals s l n q =
     line (refusal 12) (WellFormed q)
-    (formLines refusal (asked q)
+    (formLines refusal SparseToo (asked q)
     (lentLines s (operationsLine n (l .table)) l
     (requestLines refusal s (asked q)
-    (line (refusal 19) (OverlapRule (asked q) l)
-    (line (refusal 20) (RemovalRule (asked q) l)
-    (line (refusal 11) (RoomRules (asked q) l)
-    (otherwise (answered (grantFor (purpose (asked q)) (asked q) l)))))))))
+    (lastLines (asked q) l
+    (otherwise (answered (grantFor (purpose (asked q)) (asked q) l)))))))
 
 abbrev pub lookupRefusals : Space → Lent → ℕ → RefusalTable (Reply Seen)
 lookupRefusals s l x = lentLines s (λ rest. rest) l (otherwise (answered (seeIn s l x)))

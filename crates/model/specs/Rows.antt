@@ -1,5 +1,5 @@
 -- The refusal table as data (document 01): a call lists rows, and the first from the top that applies is the answer.
-use Rattle.model.specs.Prelude.{Bool, true, false, _&&_, List, [], _∷_, ℕ}
+use Rattle.model.specs.Prelude.{Bool, true, false, _&&_, List, [], _∷_, map, ℕ}
 
 -- all of some tests, as code has it that writes them with & between: (a & b) & c
 abbrev pub allFrom : Bool → List Bool → Bool
@@ -22,6 +22,10 @@ pub record Row : Type 0 where
 
 abbrev pub row : ℕ → List Bool → Row
 row n bs = record { number = n; place = 0; tests = bs }
+
+-- rows that refuse at the place p: those of one request among several
+abbrev pub placed : ℕ → List Row → List Row
+placed p ws = map (λ w. record { number = w .number; place = p; tests = w .tests }) ws
 
 -- the answer of a call: a refusal's number and place, or what was asked for
 pub data Reply (A : Type 0) : Type 0 where

@@ -34,7 +34,7 @@ pub struct Request {
     pub size: u64,
 }
 
-// The refusals of document 01's table, in the order of their numbers 1 to 14, and document 02's 17 to 20. A bad mapping
+// The refusals of document 01's table, in the order of their numbers 1 to 14, and document 02's 15 to 20. A bad mapping
 // has its place.
 pub enum Refusal {
     BadSpace,
@@ -51,6 +51,8 @@ pub enum Refusal {
     BadRecordLength,
     BadOp,
     BadFlags,
+    BadWorkLength,
+    ShortOutput,
     StaleWords,
     BadRanges,
     RangeOverlaps,
