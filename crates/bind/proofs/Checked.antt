@@ -2,7 +2,7 @@
 -- Assumes nothing.
 use mathlib.Core.Path.{_≡_, refl, sym, subst, _∙_}
 use mathlib.Core.Bool.{true, _&&_}
-use mathlib.Core.List.{List, [], _∷_}
+use mathlib.Core.List.{List, [], _∷_, _++_}
 use Prim.Native.Nat.{ℕ, zero, suc, _+_, _≤_}
 use native.Mathlib.Omega.{arith}
 use lib.Dec.{T, eqb, eqb→eq}
@@ -12,7 +12,7 @@ use Rattle.model.specs.declared.Request.{Request}
 use Rattle.model.specs.declared.Space.{Space}
 use Rattle.model.specs.Rows.{all, Row, Reply, answered, verdict}
 use Rattle.model.specs.Rules.{limit, spaceTests, objectTests, offsetTests, requestRows}
-use Rattle.model.specs.Table.{mappings, operationsRow, tableRows}
+use Rattle.model.specs.Table.{mappings, operationsRow, contentRows, tableRows}
 use Rattle.model.specs.Ranges.{listRow}
 use Rattle.model.specs.Calls.{Lent, lentRows}
 use Rattle.model.proofs.Tests.{tests, Alls, and-both, all-facts, all-true}
@@ -24,8 +24,7 @@ use Rattle.model.proofs.Operations.{operations-most}
 use Rattle.table.specs.Places.{ValidIn}
 use Rattle.ranges.specs.Lists.{lentList, ValidList}
 use Rattle.ranges.proofs.Fits.{empty-decides}
-use Rattle.change.specs.Change.{Ready}
-use Rattle.bind.specs.Bound.{checkedRows, Relistable}
+use Rattle.bind.specs.Bound.{lengthRows, checkedRows, Fitting, Relistable}
 
 -- a map's offset and size end by 2^48, and any other request has no offset
 offset-most : {s : Space} (r : Request) → RequestPassed s r → r .offset ≤ limit
@@ -77,17 +76,19 @@ module _ (s : Space) (l : Lent) where
         let p = passed-split (own n) (requestRows s r) (answered-passed (checkedRows s l n r) tt tt (sym e) .0) in
         (lent-passed s (operationsRow n (l .table) ∷ []) l (p .0), request-passed s r (p .1))
 
-    pub ready : Ready r (l .table) n
-    ready =
+    pub fitting : Fitting r (l .table) n
+    fitting =
         let rows = groups .0 in
         let ask = groups .1 in
         record {
-          table = valid-by rows .0;
-          behind = stale-zeros (l .table) .0 (rows .table .behind);
-          not-empty = omega (tests, ask .alignment);
-          stop-most = omega (tests, ask .range, rows .table .space);
-          offset-most = offset-most r ask;
-          room = λ _. omega (tests, rows .table .others, rows .table .count, operations-most r (mappings (l .table)), length-mappings (l .table .count) (l .table .words));
+          ready = record {
+            table = valid-by rows .0;
+            behind = stale-zeros (l .table) .0 (rows .table .behind);
+            not-empty = omega (tests, ask .alignment);
+            stop-most = omega (tests, ask .range, rows .table .space);
+            offset-most = offset-most r ask;
+          };
+          fits = omega (tests, rows .table .others, rows .table .count, operations-most r (mappings (l .table)), length-mappings (l .table .count) (l .table .words));
         }
 
     pub relistable : Relistable r l
@@ -104,6 +105,16 @@ module _ (s : Space) (l : Lent) where
   -- rows 1 to 5, 17 and 18, and those behind them
   pub checked-by : (n : ℕ) (r : Request) {u : Reply (Unit {0})} → u ≡ verdict (own n) → andThen u (verdict (requestRows s r)) ≡ verdict (checkedRows s l n r)
   checked-by n r e = rw e (sym (decide-append (own n) (requestRows s r) tt))
+
+  -- past rows 1, 2 and 3 the space keeps its rules
+  pub lengths-held : (n : ℕ) → answered tt ≡ verdict (lengthRows s n (l .table .words)) → all (spaceTests s) ≡ true
+  lengths-held n e = all-true (spaceTests s) (answered-passed (lengthRows s n (l .table .words)) tt tt (sym e) .0 .0)
+
+  -- rows 1, 2 and 3, and those behind them
+  pub table-by : (n : ℕ) (between : List Row) {u v : Reply (Unit {0})} → u ≡ verdict (lengthRows s n (l .table .words)) → v ≡ verdict (between ++ contentRows s (l .table))
+      → andThen u v ≡ verdict (tableRows s (operationsRow n (l .table) ∷ between) (l .table))
+  unfolding tableRows
+  table-by n between e f = rw (e, f) (sym (decide-append (lengthRows s n (l .table .words)) (between ++ contentRows s (l .table)) tt))
 
   -- past the table's rows the space keeps its rules
   pub space-held : (between : List Row) → answered tt ≡ verdict (tableRows s between (l .table)) → all (spaceTests s) ≡ true

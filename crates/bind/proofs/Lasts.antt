@@ -3,10 +3,11 @@
 use mathlib.Core.Path.{_≡_, refl, sym, ap, _∙_}
 use mathlib.Core.Bool.{Bool, true, false}
 use mathlib.Core.List.{List, _∷_}
-use Prim.Native.Nat.{ℕ, zero, suc, _+_, _-_, _<_}
+use Prim.Native.Nat.{ℕ, zero, suc, _+_, _-_, _*_, _≤_, _<_}
 use native.Mathlib.Omega.{arith}
 use lib.Dec.{leb}
 use lib.ListN.{length}
+use borrow.Author.Tests.{le-leb}
 use Rattle.model.specs.declared.Grant.{Grant}
 use Rattle.model.specs.declared.Range.{Range}
 use Rattle.model.specs.declared.Request.{Request}
@@ -14,7 +15,7 @@ use Rattle.model.specs.Rows.{all, Reply, refused, answered, decide}
 use Rattle.model.specs.Rules.{stop}
 use Rattle.model.specs.Table.{capacity, mappings}
 use Rattle.model.specs.Ranges.{RangeList, ranges, listed, insertRange, removeRange}
-use Rattle.model.specs.Cut.{after}
+use Rattle.model.specs.Cut.{after, operations}
 use Rattle.model.specs.Calls.{Lent, cuts, adds, removes, purposeFor, purpose, rangeOf, listGrant, Outcome, untouched}
 use Rattle.model.specs.Exactly.{_∈_}
 use Rattle.model.proofs.Tests.{all-facts, all-true, all-false, not-facts}
@@ -33,16 +34,17 @@ abbrev pub withList : Reply (ℕ × ℕ) → ℕ → Reply Grant
 withList (refused n p) k = refused n p
 withList (answered g) k = answered (record { operations = g .0; count = g .1; ranges = k })
 
-pub cuts-by : (r : Request) (l : Lent) (os : List ℕ) {u : Reply (ℕ × ℕ)} {ws vs : List ℕ} → changed r (l .table) os ≡ record { reply = u; table = ws; operations = vs }
+-- row 16 has nothing to say where the operations fit
+pub cuts-by : (r : Request) (l : Lent) (os : List ℕ) {u : Reply (ℕ × ℕ)} {ws vs : List ℕ} → 14 * length (operations r (mappings (l .table))) ≤ length os → changed r (l .table) os ≡ record { reply = u; table = ws; operations = vs }
     → decided cuts r l os ≡ record { answer = withList u (l .ranges .count); table = ws; ranges = l .ranges .words; operations = vs }
 unfolding changed decided decide
-cuts-by r l os {u} {ws} {vs} e = go (leb (length (after r (mappings (l .table)))) (capacity (l .table))) refl ∙ ap outcome e
+cuts-by r l os {u} {ws} {vs} fits e = go (leb (length (after r (mappings (l .table)))) (capacity (l .table))) refl ∙ ap outcome e
   where
     outcome : Changed → Outcome
     outcome c = record { answer = withList (c .reply) (l .ranges .count); table = c .table; ranges = l .ranges .words; operations = c .operations }
 
     go : (b : Bool) → leb (length (after r (mappings (l .table)))) (capacity (l .table)) ≡ b → decided cuts r l os ≡ outcome (changed r (l .table) os)
-    go true q = simp q
+    go true q = simp (q, le-leb (14 * length (operations r (mappings (l .table)))) (length os) fits)
     go false q = simp q
 
 -- ── with the flag ──

@@ -1,16 +1,18 @@
 -- What is lent, in slices; and a request whose form is right, by numbers or decoded: what is left of the public call.
 -- Assumes nothing.
 use mathlib.Core.List.{List, [], _∷_, _++_}
-use Prim.Native.Nat.{ℕ, zero, suc, _≤_, _<_}
+use Prim.Native.Nat.{ℕ, zero, suc, _*_, _≤_, _<_}
 use lib.ListN.{length}
 use Rattle.model.specs.declared.Request.{Request}
 use Rattle.model.specs.declared.Space.{Space}
 use Rattle.model.specs.Rows.{Row, Reply, refused, answered, decide}
-use Rattle.model.specs.Rules.{limit, stop, requestRows}
-use Rattle.model.specs.Table.{operationsRow}
+use Rattle.model.specs.Rules.{limit, stop, spaceRow, requestRows}
+use Rattle.model.specs.Table.{Table, mappings, lengthRow, operationsRow}
+use Rattle.model.specs.Cut.{operations}
 use Rattle.model.specs.Calls.{Asking, numbers, Lent, lentRows, Purpose, purpose, lastRows, grantFor, Outcome, untouched, outcomeFor}
 use Rattle.table.specs.Places.{lent, Valid}
 use Rattle.ranges.specs.Lists.{lentList, ValidList}
+use Rattle.change.specs.Change.{Ready}
 use Rattle.bind.specs.declared.Numbers.{Numbers}
 
 -- a list of sparse ranges and a table in lent slices of words, each with its count
@@ -21,7 +23,11 @@ lentWords rs n ws count = record { table = lent ws count; ranges = lentList rs n
 abbrev pub numbersOf : Numbers → Asking
 numbersOf q = numbers (q .op) (q .address) (q .size) (q .object) (q .offset)
 
--- the rows 1 to 5, 17, 18 and 6 to 10, with n words lent for operations
+-- the rows 1, 2 and 3 of a table in the words ws, with n words lent for operations
+abbrev pub lengthRows : Space → ℕ → List ℕ → List Row
+lengthRows s n ws = spaceRow s ∷ lengthRow (lent ws 0) ∷ operationsRow n (lent ws 0) ∷ []
+
+-- the rows 1 to 5, 17, 18 and 6 to 10
 abbrev pub checkedRows : Space → Lent → ℕ → Request → List Row
 checkedRows s l n r = lentRows s (operationsRow n (l .table) ∷ []) l ++ requestRows s r
 
@@ -47,6 +53,12 @@ partlyFor (suc f) s l os r =
 
 abbrev pub partly : Space → Lent → List ℕ → Request → Outcome
 partly s l os r = partlyFor (r .flags) s l os r
+
+-- what cutting the table asks for: a request in order on a table that passed its check, and as many words, n, as the
+-- operations have
+pub record Fitting (r : Request) (t : Table) (n : ℕ) : Type 0 where
+  pub ready : Ready r t
+  pub fits : 14 * length (operations r (mappings t)) ≤ n
 
 -- what changing the list asks for: a table and a list that passed their checks, and a range in order
 pub record Relistable (r : Request) (l : Lent) : Type 0 where

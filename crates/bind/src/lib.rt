@@ -24,8 +24,7 @@ ghost use Rattle.model.specs.Calls.{bytes, lentRows, cuts, adds, removes, purpo
 ghost use Rattle.model.specs.Demand3.{IsGrant};
 ghost use Rattle.table.specs.Places.{lent};
 ghost use Rattle.ranges.specs.Lists.{lentList};
-ghost use Rattle.change.specs.Change.{Ready};
-ghost use Rattle.bind.specs.Bound.{lentWords, numbersOf, checkedRows, Relistable, then, decided, partly};
+ghost use Rattle.bind.specs.Bound.{lentWords, numbersOf, lengthRows, checkedRows, Fitting, Relistable, then, decided, partly};
 
 // A request by its numbers: op 0 maps, op 1 unmaps, another is refused.
 #[repr(C)]
@@ -38,7 +37,7 @@ pub struct Numbers {
 }
 
 // Row 18.
-fn list_verdict(s: Space, ranges: &[u64], range_count: usize) -> Verdict
+pub fn list_verdict(s: Space, ranges: &[u64], range_count: usize) -> Verdict
     requires { ⌜ all (spaceTests s) ≡ true ⌝ }
     ensures { λ v. ⌜ verdictReply v ≡ verdict (listRow s (lentList (now (ranges .entry)) «range_count») ∷ []) ⌝ }
 {
@@ -109,9 +108,9 @@ pub fn lookup(
     }
 }
 
-// Rows 1 to 5 and 17, of the table alone, with so many words lent for operations.
-fn table_verdict(s: Space, table: &[u64], count: usize, operation_words: usize) -> Verdict
-    ensures { λ v. ⌜ verdictReply v ≡ verdict (tableRows s (operationsRow «operation_words» (lent (now (table .entry)) count) ∷ []) (lent (now (table .entry)) count)) ⌝ }
+// Rows 1, 2 and 3, with so many words lent for operations.
+pub fn lengths_verdict(s: Space, table: &[u64], operation_words: usize) -> Verdict
+    ensures { λ v. ⌜ verdictReply v ≡ verdict (lengthRows s «operation_words» (now (table .entry))) ⌝ }
 {
     if !rules::space_keeps_rules(s) {
         return Verdict::Refuse(Refusal::BadSpace);
@@ -122,7 +121,17 @@ fn table_verdict(s: Space, table: &[u64], count: usize, operation_words: usize) 
     if !cut::operations_fit(operation_words, table.len() / 4) {
         return Verdict::Refuse(Refusal::ShortOperations);
     }
-    inspect::contents_verdict(s, table, count)
+    Verdict::Pass
+}
+
+// Rows 1 to 5 and 17, of the table alone.
+fn table_verdict(s: Space, table: &[u64], count: usize, operation_words: usize) -> Verdict
+    ensures { λ v. ⌜ verdictReply v ≡ verdict (tableRows s (operationsRow «operation_words» (lent (now (table .entry)) count) ∷ []) (lent (now (table .entry)) count)) ⌝ }
+{
+    match lengths_verdict(s, table, operation_words) {
+        Verdict::Refuse(w) => Verdict::Refuse(w),
+        Verdict::Pass => inspect::contents_verdict(s, table, count),
+    }
 }
 
 // Rows 1 to 5, 17 and 18. The list is lent on as in `lookup_verdict`.
@@ -166,8 +175,8 @@ fn bind_verdict(
     }
 }
 
-// A request without the flag that passed rows 1 to 10, 17 and 18: row 11, or the table cut. The list plays no part; its
-// count is answered.
+// A request without the flag that passed rows 1 to 10, 17 and 18: row 11, or the table cut. Row 3 has settled that the
+// operations fit, so that 16 never comes. The list plays no part; its count is answered.
 fn cut_table(
     r: Request,
     table: &mut [u64],
@@ -175,11 +184,12 @@ fn cut_table(
     operations: &mut [u64],
     ranges: usize,
 ) -> Answer
-    requires { ⌜ Ready r (lent (now table) count) (length (now operations)) ⌝ }
+    requires { ⌜ Fitting r (lent (now table) count) (length (now operations)) ⌝ }
     ensures { λ a. ⌜ ((rs : List ℕ) → decided cuts r (lentWords rs ranges (now (table .entry)) count) (now (operations .entry)) ≡ record { answer = answerReply a; table = now (table .exit); ranges = rs; operations = now (operations .exit) }) ⌝ }
 {
     match change::change(r, table, count, operations) {
         ChangeAnswer::NoRoom => Answer::Refused(Refusal::NoRoom),
+        ChangeAnswer::ShortOutput => Answer::Refused(Refusal::ShortOutput),
         ChangeAnswer::Made(made, after) => Answer::Granted(Grant {
             operations: made,
             count: after,

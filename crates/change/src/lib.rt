@@ -1,4 +1,5 @@
-// Carries out a request that is known to be in order on a table that is known to be valid, in place. Want of room alone refuses it.
+// Carries out a request that is known to be in order on a table that is known to be valid, in place. Want of room alone
+// refuses it, in the table or for its operations.
 use model::Request;
 use table::Replacement;
 ghost use mathlib.Core.Path.{_≡_};
@@ -10,11 +11,12 @@ ghost use Rattle.table.specs.Places.{lent, between};
 ghost use Rattle.table.specs.Splice.{mappingsOf};
 ghost use Rattle.change.specs.Change.{changeReply, Ready, Placed, changed};
 
-// What carrying out a request came to: so many operations and so many mappings afterwards; or no room, and nothing has
-// changed.
+// What carrying out a request came to: so many operations and so many mappings afterwards; or no room in the table, or too
+// few words for its operations, and nothing has changed.
 pub enum ChangeAnswer {
     Made(usize, usize),
     NoRoom,
+    ShortOutput,
 }
 
 // The mapping that a map asks for, behind what is left below its range.
@@ -45,7 +47,7 @@ fn replacement(r: Request, t: &[u64], lo: usize, hi: usize) -> Replacement
 
 // The request carried out, unless there is no room: its operations from the first word on, and the table in its place.
 pub fn change(r: Request, t: &mut [u64], count: usize, operations: &mut [u64]) -> ChangeAnswer
-    requires { ⌜ Ready r (lent (now t) count) (length (now operations)) ⌝ }
+    requires { ⌜ Ready r (lent (now t) count) ⌝ }
     ensures { λ a. ⌜ changed r (lent (now (t .entry)) count) (now (operations .entry)) ≡ record { reply = changeReply a; table = now (t .exit); operations = now (operations .exit) } ⌝ }
 {
     let lo = table::first_ending_behind(t, count, r.address);
@@ -55,7 +57,11 @@ pub fn change(r: Request, t: &mut [u64], count: usize, operations: &mut [u64]) -
     if t.len() / 4 < after {
         return ChangeAnswer::NoRoom;
     }
-    let n = cut::write_operations(operations, t, r, lo, hi);
+    let number = cut::operations_number(r, lo, hi);
+    if operations.len() / cut::OPERATION_WORDS < number {
+        return ChangeAnswer::ShortOutput;
+    }
+    cut::write_operations(operations, t, r, lo, hi);
     table::splice(t, count, lo, hi, new);
-    ChangeAnswer::Made(n, after)
+    ChangeAnswer::Made(number, after)
 }

@@ -58,7 +58,7 @@ hits-next {r} {ws} {lo} {i} {vs} {us} {ts} {m} {o} h e d q g =
 
 -- ── the operations of a request ──
 
-length-operations : (r : Request) (hs : List Mapping) → length (operationsFor r hs) ≡ length hs + length (new r)
+pub length-operations : (r : Request) (hs : List Mapping) → length (operationsFor r hs) ≡ length hs + length (new r)
 unfolding operationsFor
 length-operations r hs = length-append (hitOperations r hs) (map Map (new r)) ∙ rw (length-hits r hs, length-map (new r) Map)
 
@@ -66,15 +66,12 @@ length-operations r hs = length-append (hitOperations r hs) (map Map (new r)) �
 pub room-each : {r : Request} {ws : List ℕ} {lo hi n : ℕ} → Hits r ws lo hi n → 14 * (hi - lo) + 14 * length (new r) ≤ n
 room-each {r} {ws} {lo} {hi} {n} h = omega (arith, h .room, length-operations r (between ws lo hi), length-between ws lo hi)
 
-module _ (r : Request) (hs : List Mapping) (vs : List ℕ) {us : List ℕ} {n : ℕ} (g : us ≡ stored vs 0 (flatMap operationWords (hitOperations r hs))) (l : length hs ≡ n) where
-  pub unmap-written : (r .op ≡ 0 → ⊥) → (n ≡ length (operationsFor r hs)) × (us ≡ stored vs 0 (flatMap operationWords (operationsFor r hs)))
+module _ (r : Request) (hs : List Mapping) (vs : List ℕ) {us : List ℕ} (g : us ≡ stored vs 0 (flatMap operationWords (hitOperations r hs))) where
+  pub unmap-written : (r .op ≡ 0 → ⊥) → us ≡ stored vs 0 (flatMap operationWords (operationsFor r hs))
   unfolding operationsFor
-  unmap-written e = (omega (arith, length-operations r hs, ap length (new-unmap r e)), g ∙ simp (new-unmap r e, append-nil))
+  unmap-written e = g ∙ simp (new-unmap r e, append-nil)
 
-  pub map-written : {ts : List ℕ} → r .op ≡ 0 → ts ≡ stored us (14 * n) (operationWords (Map (mappingOf r)))
-      → (n + 1 ≡ length (operationsFor r hs)) × (ts ≡ stored vs 0 (flatMap operationWords (operationsFor r hs)))
+  pub map-written : {n : ℕ} {ts : List ℕ} → length hs ≡ n → r .op ≡ 0 → ts ≡ stored us (14 * n) (operationWords (Map (mappingOf r)))
+      → ts ≡ stored vs 0 (flatMap operationWords (operationsFor r hs))
   unfolding operationsFor
-  map-written e q = (
-    omega (arith, length-operations r hs, ap length (new-map r e)),
-    q ∙ rw (g, ← l, ← length-hits r hs, new-map r e) (words-next vs (hitOperations r hs) (Map (mappingOf r))),
-  )
+  map-written l e q = q ∙ rw (g, ← l, ← length-hits r hs, new-map r e) (words-next vs (hitOperations r hs) (Map (mappingOf r)))

@@ -8,19 +8,19 @@ use model::Rests;
 ghost use mathlib.Core.Path.{_≡_};
 ghost use mathlib.Core.Option.{none};
 ghost use mathlib.Core.List.{flatMap};
-ghost use Prim.Native.Nat.{_+_, _-_, _*_, _≤_, _<_};
+ghost use Prim.Native.Nat.{_+_, _-_, _*_, _^_, _≤_, _<_};
 ghost use lib.Dec.{leb};
 ghost use lib.ListN.{length};
 ghost use Rattle.model.specs.Rows.{all};
 ghost use Rattle.model.specs.Rules.{limit, stop};
-ghost use Rattle.model.specs.Cut.{lowerPart, upperPart, mappingOf, displacement, agreeTests, keepMark, operationOf};
+ghost use Rattle.model.specs.Cut.{lowerPart, upperPart, mappingOf, new, displacement, agreeTests, keepMark, operationOf};
 ghost use Rattle.model.specs.Layout.{operationWords, isAbsent, restsIn, operationBy, operationIn, listedOperation};
 ghost use Rattle.words.specs.Words.{stored};
 ghost use Rattle.table.specs.Places.{between};
 ghost use Rattle.cut.specs.Operations.{Cuttable, Bounded, parts, lowerOf, upperOf, absentRest, hitOperations, operationsFor, Hits};
 
 // The words of an operation, and its kinds.
-const OPERATION_WORDS: usize = 14;
+pub const OPERATION_WORDS: usize = 14;
 
 const MAP: u64 = 0;
 
@@ -302,26 +302,35 @@ fn write_hits(operations: &mut [u64], t: &[u64], r: Request, lo: usize, hi: usiz
     }
 }
 
-// Writes the operations of a request that hits the mappings from place `lo` up to `hi`, from the first word on: theirs, and
-// a map's own behind them. Answers how many there are.
+// How many operations a request has that hits the mappings from place `lo` up to `hi`: theirs, and a map's own.
+pub fn operations_number(r: Request, lo: usize, hi: usize) -> usize
+    requires { ⌜ (lo ≤ hi) × (hi < 2 ^ 63) ⌝ }
+    ensures { λ n. ⌜ n ≡ hi - lo + length (new r) ⌝ }
+{
+    if r.op != 0 {
+        return hi - lo;
+    }
+    hi - lo + 1
+}
+
+// Writes them, from the first word on, a map's own behind the others.
 pub fn write_operations(
     operations: &mut [u64],
     t: &[u64],
     r: Request,
     lo: usize,
     hi: usize,
-) -> usize
+)
     requires { ⌜ Hits r (now t) lo hi (length (now operations)) ⌝ }
-    ensures { λ n. ⌜ (n ≡ length (operationsFor r (between (now (t .entry)) lo hi))) × (now (operations .exit) ≡ stored (now (operations .entry)) 0 (flatMap operationWords (operationsFor r (between (now (t .entry)) lo hi)))) ⌝ }
+    ensures { λ _. ⌜ now (operations .exit) ≡ stored (now (operations .entry)) 0 (flatMap operationWords (operationsFor r (between (now (t .entry)) lo hi))) ⌝ }
 {
     write_hits(operations, t, r, lo, hi);
     if r.op != 0 {
-        return hi - lo;
+        return;
     }
     write_operation(
         operations,
         OPERATION_WORDS * (hi - lo),
         Operation::Map(new_mapping(r)),
-    );
-    hi - lo + 1
+    )
 }

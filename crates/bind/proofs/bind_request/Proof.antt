@@ -5,7 +5,7 @@ use Prim.Native.Nat.{ℕ}
 use lib.ListN.{length}
 use Rattle.model.specs.Calls.{purposeFor, verdictReply}
 use Rattle.bind.specs.Bound.{lentWords, decided}
-use Rattle.bind.proofs.Checked.{ready}
+use Rattle.bind.proofs.Checked.{fitting}
 use Rattle.bind.proofs.Binds.{bound-by, some, partly-plain, partly-passed, partly-refused}
 use borrow.Author.Needs.{needs}
 use Rattle.bind.proofs.bind_request.Statement.{statement}
@@ -25,7 +25,7 @@ cut-table-requires c κs =
     let passed = c .before .before .before .before in
     let checked = passed .before .before in
     let a = checked .before .before .before .before .before .args in
-    ready (a .s) (lentWords (a .ranges .now) (a .range-count) (a .table .now) (a .count)) (length (a .operations .now)) (a .r) (sym (ap verdictReply (passed .enum-told .given .1)) ∙ checked .bind-verdict .ensures)
+    fitting (a .s) (lentWords (a .ranges .now) (a .range-count) (a .table .now) (a .count)) (length (a .operations .now)) (a .r) (sym (ap verdictReply (passed .enum-told .given .1)) ∙ checked .bind-verdict .ensures)
 
 same-length : tie.Need-same-length
 same-length c = search needs

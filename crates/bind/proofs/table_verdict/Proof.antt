@@ -1,67 +1,48 @@
 -- `bind::table_verdict` meets its contract.
 -- Assumes nothing.
-use Rattle.model.specs.Rows.{decide}
-use Rattle.model.specs.Table.{tableRows}
-use Rattle.rules.proofs.Laws.{held, failed}
+use mathlib.Core.Path.{refl, sym, ap, _∙_}
+use mathlib.Core.List.{[]}
+use Rattle.model.specs.Calls.{verdictReply}
+use Rattle.bind.specs.Bound.{lentWords}
+use Rattle.bind.proofs.Checked.{lengths-held, table-by}
 use borrow.Author.Needs.{needs}
 use Rattle.bind.proofs.table_verdict.Statement.{statement}
 use Rattle.bind.proofs.table_verdict.Tie as tie
 
-space-keeps-rules-requires : tie.Need-space-keeps-rules-requires
-space-keeps-rules-requires c κs = search needs
+lengths-verdict-requires : tie.Need-lengths-verdict-requires
+lengths-verdict-requires c κs = search needs
 
-returns : tie.Need-returns
-unfolding decide tableRows
-returns c = simp (failed (c .before .space-keeps-rules .ensures) (c .if1 .taken))
+enum-known-w : tie.Need-enum-known-w
+enum-known-w c = search needs
 
-length-is-right-requires : tie.Need-length-is-right-requires
-length-is-right-requires c κs = search needs
-
-returns-2 : tie.Need-returns-2
-unfolding decide tableRows
-returns-2 c =
-    let spaced = c .before .before .before in
-    simp (held (spaced .space-keeps-rules .ensures) (c .before .before .if1 .left), failed (c .before .length-is-right .ensures) (c .if2 .taken))
-
-operations-fit-requires : tie.Need-operations-fit-requires
-operations-fit-requires c κs = search needs
-
-returns-3 : tie.Need-returns-3
-unfolding decide tableRows
-returns-3 c =
-    let sized = c .before .before .before in
-    let spaced = sized .before .before in
-    simp (
-      held (spaced .space-keeps-rules .ensures) (sized .before .if1 .left),
-      held (sized .length-is-right .ensures) (c .before .before .if2 .left),
-      failed (c .before .operations-fit .ensures) (c .if3 .taken),
-    )
+enum-told : tie.Need-enum-told
+enum-told c = search needs
 
 contents-verdict-requires : tie.Need-contents-verdict-requires
-contents-verdict-requires c κs = let spaced = c .before .before .before .before .before in held (spaced .space-keeps-rules .ensures) (c .before .before .before .before .if1 .left)
+contents-verdict-requires c κs =
+    let sized = c .before .before in
+    let a = sized .before .before .args in
+    lengths-held (a .s) (lentWords [] 0 (a .table .now) (a .count)) (a .operation-words) (sym (ap verdictReply (c .enum-told .given .1)) ∙ sized .lengths-verdict .ensures)
 
-returns-4 : tie.Need-returns-4
-unfolding decide tableRows
-returns-4 c =
-    let fitted = c .before .before in
-    let sized = fitted .before .before in
-    let spaced = sized .before .before in
-    simp (
-      held (spaced .space-keeps-rules .ensures) (sized .before .if1 .left),
-      held (sized .length-is-right .ensures) (fitted .before .if2 .left),
-      held (fitted .operations-fit .ensures) (c .before .if3 .left),
-    )
-    (c .contents-verdict .ensures)
+returns : tie.Need-returns
+returns c =
+    let sized = c .before .before .before in
+    let a = sized .before .before .args in
+    table-by (a .s) (lentWords [] 0 (a .table .now) (a .count)) (a .operation-words) [] (sym (ap verdictReply (c .before .w .given .1)) ∙ sized .lengths-verdict .ensures) refl
+
+returns-2 : tie.Need-returns-2
+returns-2 c =
+    let sized = c .before .before .before in
+    let a = sized .before .before .args in
+    table-by (a .s) (lentWords [] 0 (a .table .now) (a .count)) (a .operation-words) [] (sym (ap verdictReply (c .before .enum-told .given .1)) ∙ sized .lengths-verdict .ensures) (c .contents-verdict .ensures)
 
 pub table-verdict-spec : {M : Type 1} → statement M
 table-verdict-spec =
     tie.close
     (tie.spec
-    space-keeps-rules-requires
-    returns
-    length-is-right-requires
-    returns-2
-    operations-fit-requires
-    returns-3
+    lengths-verdict-requires
+    enum-known-w
+    enum-told
     contents-verdict-requires
-    returns-4)
+    returns
+    returns-2)

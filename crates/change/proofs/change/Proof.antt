@@ -6,7 +6,7 @@ use Rattle.model.proofs.Store.{length-mappings}
 use Rattle.table.specs.Places.{endsBehind}
 use Rattle.table.proofs.First.{first-most}
 use Rattle.change.proofs.Hits.{low-high}
-use Rattle.change.proofs.Changed.{placed, room-places, full, carried-out}
+use Rattle.change.proofs.Changed.{placed, fits-places, full, short, carried-out}
 use borrow.Author.Needs.{needs}
 use Rattle.change.proofs.change.Statement.{statement}
 use Rattle.change.proofs.change.Tie as tie
@@ -73,44 +73,85 @@ returns c =
     let p = placed (start .pre) (low .first-ending-behind .ensures) (high .before .last-byte .ensures) (high .first-starting-behind .ensures) in
     full p (start .args .operations .now) (new .replacement .ensures) (counted .replacement-length .ensures .0) (omega (arith, c .if1 .taken))
 
-write-operations-requires : tie.Need-write-operations-requires
-write-operations-requires c κs =
+operations-number-requires : tie.Need-operations-number-requires
+operations-number-requires c κs =
+    let counted = c .before in
+    let new = counted .before in
+    let high = new .before .before in
+    let low = high .before .before .before in
+    let start = low .before .before .before .before in
+    let p = placed (start .pre) (low .first-ending-behind .ensures) (high .before .last-byte .ensures) (high .first-starting-behind .ensures) in
+    (low-high p .0, omega (arith, low-high p, start .pre .table .held, start .good))
+
+same-length-2 : tie.Need-same-length-2
+same-length-2 c = search needs
+
+returns-2 : tie.Need-returns-2
+returns-2 c =
     let counted = c .before .before .before in
     let new = counted .before in
     let high = new .before .before in
     let low = high .before .before .before in
     let start = low .before .before .before .before in
     let p = placed (start .pre) (low .first-ending-behind .ensures) (high .before .last-byte .ensures) (high .first-starting-behind .ensures) in
-    record { count = start .args .count; table = start .pre .table; low = low-high p .0; high = low-high p .1; not-empty = start .pre .not-empty; stop-most = start .pre .stop-most; offset-most = start .pre .offset-most; room = room-places p (start .args .operations .now) (new .replacement .ensures) (counted .replacement-length .ensures .0) (start .pre) (omega (arith, c .before .before .if1 .left)) }
+    short p (start .args .operations .now) (new .replacement .ensures) (counted .replacement-length .ensures .0) (omega (arith, c .before .before .if1 .left))
+    (c .before .operations-number .ensures) (omega (arith, c .if2 .taken))
 
-splice-requires : tie.Need-splice-requires
-splice-requires c κs =
-    let counted = c .before .before .before .before .before .before .before in
+write-operations-requires : tie.Need-write-operations-requires
+write-operations-requires c κs =
+    let counted = c .before .before .before .before .before in
     let new = counted .before in
     let high = new .before .before in
     let low = high .before .before .before in
     let start = low .before .before .before .before in
     let p = placed (start .pre) (low .first-ending-behind .ensures) (high .before .last-byte .ensures) (high .first-starting-behind .ensures) in
-    record { low = omega (arith, low-high p); high = omega (arith, low-high p); held = start .pre .table .held; behind = start .pre .behind; room = omega (arith, c .before .before .before .before .before .before .if1 .left, counted .replacement-length .ensures .0) }
+    record {
+      count = start .args .count;
+      table = start .pre .table;
+      low = low-high p .0;
+      high = low-high p .1;
+      not-empty = start .pre .not-empty;
+      stop-most = start .pre .stop-most;
+      offset-most = start .pre .offset-most;
+      room = fits-places p (start .args .operations .now) (new .replacement .ensures) (counted .replacement-length .ensures .0) (c .before .before .before .operations-number .ensures)
+          (omega (arith, c .before .before .if2 .left));
+    }
 
-same-length-2 : tie.Need-same-length-2
-same-length-2 c = search needs
+splice-requires : tie.Need-splice-requires
+splice-requires c κs =
+    let counted = c .before .before .before .before .before .before .before .before .before in
+    let new = counted .before in
+    let high = new .before .before in
+    let low = high .before .before .before in
+    let start = low .before .before .before .before in
+    let p = placed (start .pre) (low .first-ending-behind .ensures) (high .before .last-byte .ensures) (high .first-starting-behind .ensures) in
+    record {
+      low = omega (arith, low-high p);
+      high = omega (arith, low-high p);
+      held = start .pre .table .held;
+      behind = start .pre .behind;
+      room = omega (arith, c .before .before .before .before .before .before .before .before .if1 .left, counted .replacement-length .ensures .0);
+    }
 
 same-length-3 : tie.Need-same-length-3
 same-length-3 c = search needs
 
-returns-2 : tie.Need-returns-2
-returns-2 c =
+same-length-4 : tie.Need-same-length-4
+same-length-4 c = search needs
+
+returns-3 : tie.Need-returns-3
+returns-3 c =
     let spliced = c .before .before in
     let wrote = spliced .before .before .before .before in
-    let counted = wrote .before .before .before .before in
+    let numbered = wrote .before .before .before .before in
+    let counted = c .before .before .before .before .before .before .before .before .before .before .before .before in
     let new = counted .before in
     let high = new .before .before in
     let low = high .before .before .before in
     let start = low .before .before .before .before in
     let p = placed (start .pre) (low .first-ending-behind .ensures) (high .before .last-byte .ensures) (high .first-starting-behind .ensures) in
-    carried-out p (start .args .operations .now) (new .replacement .ensures) (counted .replacement-length .ensures .0) (omega (arith, wrote .before .before .before .if1 .left))
-    (wrote .write-operations .ensures .0) (wrote .write-operations .ensures .1) (spliced .splice .ensures)
+    carried-out p (start .args .operations .now) (new .replacement .ensures) (counted .replacement-length .ensures .0) (omega (arith, numbered .before .if1 .left))
+    (numbered .operations-number .ensures) (omega (arith, wrote .before .before .before .if2 .left)) (wrote .write-operations .ensures) (spliced .splice .ensures)
 
 pub change-spec : {M : Type 1} → statement M
 change-spec =
@@ -126,8 +167,11 @@ change-spec =
     add-after-2
     same-length
     returns
+    operations-number-requires
+    same-length-2
+    returns-2
     write-operations-requires
     splice-requires
-    same-length-2
     same-length-3
-    returns-2)
+    same-length-4
+    returns-3)

@@ -14,9 +14,6 @@ use Rattle.cut.proofs.write_operations.Tie as tie
 write-hits-requires : tie.Need-write-hits-requires
 write-hits-requires c κs = c .before .before .before .pre
 
-sub-result : tie.Need-sub-result
-sub-result c = let start = c .before .before .before .before .before .before .before .before in start .pre .low
-
 same-length : tie.Need-same-length
 same-length c = search needs
 
@@ -24,15 +21,13 @@ returns : tie.Need-returns
 returns c =
     let hits = c .before .before .before .before in
     let a = hits .before .before .before .before .args in
-    unmap-written (a .r) (between (a .t .now) (a .lo) (a .hi)) (a .operations .now) (hits .write-hits .ensures) (length-between (a .t .now) (a .lo) (a .hi)) (c .if1 .taken)
+    unmap-written (a .r) (between (a .t .now) (a .lo) (a .hi)) (a .operations .now) (hits .write-hits .ensures) (c .if1 .taken)
 
 sub-write-operation : tie.Need-sub-write-operation
-sub-write-operation c = let start = c .before .before .before .before .before .before .before .before .before in omega (arith, start .pre .low)
+sub-write-operation c = search needs
 
 mul-write-operation : tie.Need-mul-write-operation
-mul-write-operation c =
-    let start = c .before .before .before .before .before .before .before .before .before in
-    omega (arith, room-each (start .pre), start .pre .low)
+mul-write-operation c = search needs
 
 new-mapping-requires : tie.Need-new-mapping-requires
 new-mapping-requires c κs = search needs
@@ -41,14 +36,6 @@ write-operation-requires : tie.Need-write-operation-requires
 write-operation-requires c κs =
     let start = c .before .before .before .before .before .before .before .before .before .before in
     omega (arith, room-each (start .pre), ap length (new-map (start .args .r) (c .before .before .if1 .left)))
-
-sub-result-2 : tie.Need-sub-result-2
-sub-result-2 c = let start = c .before .before .before .before .before .before .before .before .before .before .before .before .before in start .pre .low
-
-add-result : tie.Need-add-result
-add-result c =
-    let start = c .before .before .before .before .before .before .before .before .before .before .before .before .before in
-    omega (arith, room-each (start .pre), start .pre .low)
 
 same-length-2 : tie.Need-same-length-2
 same-length-2 c = search needs
@@ -67,14 +54,11 @@ write-operations-spec =
     tie.close
     (tie.spec
     write-hits-requires
-    sub-result
     same-length
     returns
     sub-write-operation
     mul-write-operation
     new-mapping-requires
     write-operation-requires
-    sub-result-2
-    add-result
     same-length-2
     returns-2)
