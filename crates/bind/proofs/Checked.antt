@@ -27,7 +27,7 @@ use Rattle.ranges.proofs.Fits.{empty-decides}
 use Rattle.bind.specs.Bound.{lengthRows, checkedRows, Fitting, Relistable}
 
 -- a map's offset and size end by 2^48, and any other request has no offset
-offset-most : {s : Space} (r : Request) → RequestPassed s r → r .offset ≤ limit
+pub offset-most : {s : Space} (r : Request) → RequestPassed s r → r .offset ≤ limit
 offset-most r p = go (r .op) (r .op + r .flags) (omega arith) (p .object) (p .offset)
   where
     go : (op n : ℕ) → op ≤ n → Alls (objectTests n r) → Alls (offsetTests op r) → r .offset ≤ limit
@@ -43,7 +43,7 @@ none-listed ws n e s =
     sym (passes (listRow s (lentList ws n) ∷ []) tt (all-facts (listRow s (lentList ws n) .tests) q, tt))
 
 module _ (s : Space) (l : Lent) where
-  valid-by : {between : List Row} → LentPassed s between l → ValidIn s (l .table .words) (l .table .count)
+  pub valid-by : {between : List Row} → LentPassed s between l → ValidIn s (l .table .words) (l .table .count)
   valid-by p = (
     record {
       held = omega (tests, p .table .count);

@@ -72,7 +72,7 @@ module _ {r : Request} {ws : List ℕ} {lo hi : ℕ} (p : Placed r ws lo hi) (os
   unfolding changed decide
   short h f k =
       let w : leb (14 * length (operations r (mappingsIn n ws))) (length os) ≡ false =
-          lt-leb (14 * length (operations r (mappingsIn n ws))) (length os) (omega (arith, same-number, number f, k)) in
+      lt-leb (14 * length (operations r (mappingsIn n ws))) (length os) (omega (arith, same-number, number f, k)) in
       simp (has-room h, w)
 
   pub carried-out : {k : ℕ} {us vs : List ℕ} → count ≤ length ws / 4 → k ≡ hi - lo + length (mapped r) → k ≤ length os / 14
@@ -82,7 +82,7 @@ module _ {r : Request} {ws : List ℕ} {lo hi : ℕ} (p : Placed r ws lo hi) (os
   unfolding changed decide
   carried-out {k} {us} {vs} h f m wrote table =
       let w : leb (14 * length (operations r (mappingsIn n ws))) (length os) ≡ true =
-          le-leb (14 * length (operations r (mappingsIn n ws))) (length os) (omega (arith, same-number, number f, m)) in
+      le-leb (14 * length (operations r (mappingsIn n ws))) (length os) (omega (arith, same-number, number f, m)) in
       let l : 0 + length (flatMap operationWords written-out) ≡ 14 * length written-out = omega (arith, operations-words written-out) in
       let words : us ≡ flatMap operationWords written-out ++ drop (14 * length written-out) os = wrote ∙ stored-is os 0 (flatMap operationWords written-out) ∙ rw l in
       let d : k ≡ length written-out = omega (arith, number f) in

@@ -314,13 +314,7 @@ pub fn operations_number(r: Request, lo: usize, hi: usize) -> usize
 }
 
 // Writes them, from the first word on, a map's own behind the others.
-pub fn write_operations(
-    operations: &mut [u64],
-    t: &[u64],
-    r: Request,
-    lo: usize,
-    hi: usize,
-)
+pub fn write_operations(operations: &mut [u64], t: &[u64], r: Request, lo: usize, hi: usize)
     requires { ⌜ Hits r (now t) lo hi (length (now operations)) ⌝ }
     ensures { λ _. ⌜ now (operations .exit) ≡ stored (now (operations .entry)) 0 (flatMap operationWords (operationsFor r (between (now (t .entry)) lo hi))) ⌝ }
 {

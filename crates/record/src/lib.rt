@@ -9,7 +9,7 @@ ghost use lib.ListN.{length};
 ghost use Rattle.model.specs.Calls.{requestOf, decode, decodedReply};
 ghost use Rattle.record.specs.Number.{NumberAt};
 
-const RECORD_BYTES: usize = 40;
+pub const RECORD_BYTES: usize = 40;
 
 fn u8_at(bytes: &[u8], at: usize) -> u64
     requires { ⌜ at + 1 ≤ length (now bytes) ⌝ }
