@@ -1,0 +1,4 @@
+pub mod Run
+pub mod Turns
+pub mod Batch
+pub mod Exactly
