@@ -2,3 +2,9 @@ pub mod Run
 pub mod Turns
 pub mod Batch
 pub mod Exactly
+pub mod Relent
+pub mod OneByOne
+pub mod Shorter
+pub mod Effect
+pub mod Replay
+pub mod Grants
