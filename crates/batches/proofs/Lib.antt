@@ -8,3 +8,4 @@ pub mod Shorter
 pub mod Effect
 pub mod Replay
 pub mod Grants
+pub mod Demand3
