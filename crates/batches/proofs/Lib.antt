@@ -9,3 +9,4 @@ pub mod Effect
 pub mod Replay
 pub mod Grants
 pub mod Demand3
+pub mod Base
