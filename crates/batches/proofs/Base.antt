@@ -41,8 +41,7 @@ pub base : Demand3 → OfSingle
 base claim s l r ps c series off cut whole parts =
     let d = claim s l r ps c (map single series) off cut whole (each-asks s n L ps series parts) in (
       λ every.
-          let g = d .0 (each-map Granted GrantedIn ps (λ p h. somewhere-single s L p l series h) every) in
-          (
+          let g = d .0 (each-map Granted GrantedIn ps (λ p h. somewhere-single s L p l series h) every) in (
             g .0,
             λ e. subst (Replaced l r ps (leftBy s l c)) (final-single s l series) (g .1 e),
             λ e. sym (final-single s l series) ∙ g .2 e,

@@ -10,3 +10,5 @@ pub mod Replay
 pub mod Grants
 pub mod Demand3
 pub mod Base
+pub mod Example
+pub mod Worked
