@@ -1,6 +1,6 @@
 -- Demand 3 of single calls alone, which is `model`'s claim, is the case of a series without batches.
 -- Assumes nothing.
-use mathlib.Core.Path.{_≡_, refl, sym, ap, subst, _∙_}
+use mathlib.Core.Path.{_≡_, refl, sym, subst, _∙_}
 use mathlib.Core.Logic.{_⊎_, inl, inr}
 use mathlib.Core.List.{List, [], _∷_, map, List·Memᴰ·head}
 use Prim.Native.Nat.{ℕ}
@@ -10,7 +10,7 @@ use Rattle.model.specs.Exactly.{Each, _∈_, _⊆_, refusal}
 use Rattle.model.specs.Demand3.{final, Somewhere, Everywhere, Call, Asks, answerTo, leftBy, IsGrant, Replaced, Demand3 as OfSingle}
 use Rattle.model.proofs.Actions.{each-map}
 use Rattle.batches.specs.Prelude.{Space, Request}
-use Rattle.batches.specs.Demand3.{AnyCall, single, answerToAny, leftByAny, Lends, asks, Wants, Demand3}
+use Rattle.batches.specs.Demand3.{single, answerToAny, leftByAny, Lends, asks, Wants, Demand3}
 
 module _ (s : Space) where
   final-single : (l : Lent) (cs : List Call) → final (leftByAny s) l (map single cs) ≡ final (leftBy s) l cs

@@ -3,12 +3,12 @@
 use mathlib.Core.Path.{_≡_, refl, sym, ap, subst, _∙_}
 use mathlib.Core.Logic.{_⊎_, inl, inr}
 use mathlib.Core.Bool.{Bool, true, false}
-use mathlib.Core.List.{List, [], _∷_, _++_, append-assoc}
+use mathlib.Core.List.{List, [], _∷_, _++_}
 use Prim.Native.Nat.{ℕ, _*_, _≤_, _<_, _%_}
 use native.Mathlib.Omega.{arith}
 use lib.Dec.{leb, eqb}
 use lib.ListN.{length}
-use Rattle.model.specs.Rows.{all, choose, Row, Reply, refused, answered, decide, verdict}
+use Rattle.model.specs.Rows.{all, choose, Row, Reply, refused, answered, verdict}
 use Rattle.model.specs.Rules.{spaceRow}
 use Rattle.model.specs.Table.{capacity, mappings, lengthRow, operationsRow, contentRows, tableRows}
 use Rattle.model.specs.Ranges.{listRow}
@@ -23,7 +23,7 @@ use Rattle.model.proofs.Ask.{Asked}
 use Rattle.model.proofs.Granted.{Good, table-chain, relent, good-relent}
 use Rattle.model.proofs.Demand3.{HoldsLent}
 use Rattle.batches.specs.Prelude.{Space, Mapping, Request, Grant}
-use Rattle.batches.specs.Batch.{mostRecords, requestsIn, batchRow, workRow, batchRows, turnsRows, afterAll, operationsAll, batchGrant, BatchOutcome, batchOutcome, turns, bindBatch, lentAfterBatch}
+use Rattle.batches.specs.Batch.{mostRecords, requestsIn, batchRow, workRow, batchRows, turnsRows, afterAll, operationsAll, batchGrant, batchOutcome, turns, bindBatch, lentAfterBatch}
 use Rattle.batches.specs.Grants.{Batch}
 use Rattle.batches.specs.Demand3.{batch, asksBatch, Wants}
 use Rattle.batches.proofs.Turns.{after-all-chain, Turns, turns-passed, open-row, Served, turns-serve}
@@ -160,8 +160,12 @@ module _ (s : Space) (l : Lent) (ws os bs : List ℕ) where
       go (inl e) (inr w) = inr (e .1 ∙ through ∙ w)
       go (inl e) (inl w) = absurd (f (e .0, omega (tests, w .0)))
 
-  pub serves : (n : ℕ) → length (l .table .words) ≡ n → Good s (length os) l → Each (Asked s) (asksBatch n (record { work = ws; operations = os; records = bs }))
-      → IsGrant (bindBatch s l ws os bs .answer) ⊎ Wants n (batch (record { work = ws; operations = os; records = bs })) (bindBatch s l ws os bs .answer)
+  abbrev this : Batch
+  this = record { work = ws; operations = os; records = bs }
+
+  -- a batch of requests that may be asked is granted, or room is wanting
+  pub serves : (n : ℕ) → length (l .table .words) ≡ n → Good s (length os) l → Each (Asked s) (asksBatch n this)
+      → IsGrant (bindBatch s l ws os bs .answer) ⊎ Wants n (batch this) (bindBatch s l ws os bs .answer)
   unfolding bindBatch
   serves n len g a = go (all asking) refl a
     where

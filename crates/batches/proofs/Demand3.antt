@@ -15,7 +15,7 @@ use Rattle.model.specs.Table.{capacity, mappings}
 use Rattle.model.specs.Cut.{after}
 use Rattle.model.specs.Calls.{recordBytes, Asking, asked, Lent, Purpose, cuts, adds, removes, purpose, lastRows, bindRows, grantFor, outcomeFor, bind}
 use Rattle.model.specs.Exactly.{Each, _∈_, _⊆_, Unflagged}
-use Rattle.model.specs.Demand3.{Pieces, final, Somewhere, Everywhere, Call, IsGrant, Replaced}
+use Rattle.model.specs.Demand3.{Pieces, final, Somewhere, Everywhere, IsGrant, Replaced}
 use Rattle.model.proofs.Actions.{each-map, run}
 use Rattle.model.proofs.Tests.{tests, Alls, eq→eqb, all-true}
 use Rattle.model.proofs.Rows.{Passed}

@@ -1,6 +1,7 @@
 pub mod Run
 pub mod Turns
 pub mod Batch
+pub mod Refusals
 pub mod Exactly
 pub mod Relent
 pub mod OneByOne

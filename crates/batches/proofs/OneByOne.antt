@@ -19,10 +19,10 @@ use Rattle.model.proofs.Ask.{Asked}
 use Rattle.model.proofs.Granted.{Good, granting as granting-one, table-chain, after-chain, relent, good-relent}
 use Rattle.model.proofs.Demand3.{calls}
 use Rattle.batches.specs.Prelude.{Space, Mapping, Request, Grant}
-use Rattle.batches.specs.Batch.{recordsIn, requestsIn, turnsRows, afterAll, operationsAll, BatchOutcome, bindBatch}
+use Rattle.batches.specs.Batch.{recordsIn, requestsIn, turnsRows, afterAll, operationsAll, BatchOutcome}
 use Rattle.batches.specs.Grants.{told, wroteBy, wroteAll, OneByOne}
 use Rattle.batches.proofs.Turns.{Turn, turn-passed}
-use Rattle.batches.proofs.Batch.{Granting, granting, leaves}
+use Rattle.batches.proofs.Batch.{Granting, leaves}
 use Rattle.batches.proofs.Relent.{relent-same, relent-again, relent-mappings}
 
 -- ── one request ──

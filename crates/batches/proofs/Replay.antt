@@ -20,7 +20,7 @@ use Rattle.model.proofs.Replay.{replay-append, replays}
 use Rattle.model.proofs.Ask.{Asked}
 use Rattle.model.proofs.Granted.{table-chain, relent}
 use Rattle.batches.specs.Prelude.{Space, Mapping, Request, Operation, Grant}
-use Rattle.batches.specs.Batch.{requestsIn, afterAll, operationsAll, batchGrant, BatchOutcome, batchOutcome, bindBatch, lentAfterBatch}
+use Rattle.batches.specs.Batch.{requestsIn, afterAll, operationsAll, batchGrant, BatchOutcome, bindBatch, lentAfterBatch}
 use Rattle.batches.specs.Grants.{ReplaysAll}
 use Rattle.batches.proofs.Run.{run-after}
 use Rattle.batches.proofs.Batch.{Granting, may, fits, room}

@@ -1,6 +1,6 @@
 -- A granted batch leaves what the shorter batches leave that it is cut into, where they are granted.
 -- Assumes nothing.
-use mathlib.Core.Path.{_≡_, refl, sym, ap, ap₂, _∙_}
+use mathlib.Core.Path.{_≡_, sym, ap, ap₂, _∙_}
 use mathlib.Core.List.{List, [], _∷_, _++_, map, flatMap, map-append}
 use Prim.Native.Nat.{ℕ, zero, suc, _+_, _*_, _/_, _%_}
 use native.Mathlib.Omega.{arith}
@@ -15,7 +15,7 @@ use Rattle.batches.specs.Prelude.{Space, Mapping, Request}
 use Rattle.batches.specs.Batch.{recordsIn, requestsIn, afterAll}
 use Rattle.batches.specs.Grants.{Batch, answerToBatch, leftByBatch, Shorter}
 use Rattle.batches.proofs.Turns.{after-all-append}
-use Rattle.batches.proofs.Batch.{Granting, granting, room, leaves, kept}
+use Rattle.batches.proofs.Batch.{granting, room, leaves, kept}
 use Rattle.batches.proofs.Relent.{relent-same, relent-again, relent-mappings}
 
 -- records in bytes that stand one behind the other

@@ -6,20 +6,20 @@ use mathlib.Core.Bool.{Bool, true, false}
 use mathlib.Core.List.{List, [], _∷_, _++_}
 use Prim.Native.Nat.{ℕ, suc, _+_, _-_, _*_, _≤_, _<_}
 use native.Mathlib.Omega.{arith}
+use lib.Dec.{T, leb, eqb}
 use lib.ListN.{length, length-append}
 use Rattle.model.specs.Rows.{all, Row, Reply, refused, answered, placed, choose, decide, verdict, numberOf}
 use Rattle.model.specs.Rules.{formRows, requestRows}
 use Rattle.model.specs.Cut.{after, operations}
 use Rattle.model.specs.Exactly.{Each}
 use Rattle.model.proofs.Actions.{run}
-use Rattle.model.proofs.Tests.{Alls, tests, all-facts}
+use Rattle.model.proofs.Tests.{Alls, tests, eq→eqb, all-facts}
 use Rattle.model.proofs.Rows.{andThen, decide-append, Passed, passed-split, not-both, past, passed-or-refused, decide-holds}
 use Rattle.model.proofs.Chain.{Chain}
 use Rattle.model.proofs.Run.{Run}
 use Rattle.model.proofs.Table.{top}
 use Rattle.model.proofs.Operations.{operations-most}
 use Rattle.model.proofs.Counts.{operations-after-most}
-use Rattle.model.proofs.Groups.{FormPassed, RequestPassed}
 use Rattle.model.proofs.Ask.{Asked, asked-by, by-asked}
 use Rattle.model.proofs.Granted.{after-chain}
 use Rattle.batches.specs.Prelude.{Space, Mapping, Request}
@@ -152,23 +152,11 @@ turns-serve {A} s room left p (r ∷ rs) ms a h =
 turn-fits : (s : Space) (room left p : ℕ) (r : Request) (ms : List Mapping) → 14 * (length ms + 1) ≤ left
     → numberOf (verdict (placed p (turnRows s room left r ms))) ≡ 16 → ⊥
 unfolding formRows requestRows
-turn-fits s room left p r ms h =
-    decide-holds (λ u. numberOf u ≡ 16 → ⊥) (placed p (turnRows s room left r ms)) (tt {0}) (
-      inr (λ e. omega arith),
-      (
-        inr (λ e. omega arith),
-        (
-          inr (λ e. omega arith),
-          (
-            inr (λ e. omega arith),
-            (
-              inr (λ e. omega arith),
-              (inr (λ e. omega arith), (inr (λ e. omega arith), (inr (λ e. omega arith), (inl (omega (tests, operations-most r ms), tt), tt)))),
-            ),
-          ),
-        ),
-      ),
-    ) (λ e. omega arith)
+turn-fits s room left p r ms h e =
+    let fits : T (leb (14 * length (operations r ms)) left) = omega (tests, operations-most r ms) in
+    decide-holds (λ u. T (eqb (numberOf u) 16) → ⊥) (placed p (turnRows s room left r ms)) (tt {0})
+    (inr (λ t. t), (inr (λ t. t), (inr (λ t. t), (inr (λ t. t), (inr (λ t. t), (inr (λ t. t), (inr (λ t. t), (inr (λ t. t), (inl (fits, tt), tt)))))))))
+    (λ t. t) (eq→eqb _ 16 e)
 
 pub turns-fit : {A : Type 0} (s : Space) (room left p q : ℕ) (rs : List Request) (ms : List Mapping) (a : A) → Run 0 ms
     → 14 * (length ms + 4 * length rs) ≤ left → decide (turnsRows s room left p rs ms) a ≡ refused 16 q → ⊥
