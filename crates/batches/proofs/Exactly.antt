@@ -28,6 +28,7 @@ use Rattle.batches.specs.Batch.{recordsIn, requestsIn, batchRow, workRow
 use Rattle.batches.specs.Exactly.{turnLines, batchRefusals, BatchExactly}
 use Rattle.batches.specs.declared.BatchAnswer.{BatchAnswer}
 use Rattle.batches.specs.declared.BatchAnswer.the-variants.{Granted, Refused}
+use Rattle.batches.proofs.Records.{read-back}
 use Rattle.batches.proofs.Run.{run-after}
 use Rattle.batches.proofs.Batch.{batch-answer, other-between}
 use Rattle.batches.proofs.Refusals.{refuses, never-short}
@@ -155,4 +156,4 @@ pinned = back-pins batchReply back same
     same (Refused n p) = refl
 
 pub exactly : BatchExactly
-exactly = record { of-batch = of-batch; refuses = refuses; empty = empty; never-short = never-short; pinned = pinned }
+exactly = record { of-batch = of-batch; refuses = refuses; empty = empty; never-short = never-short; records = read-back; pinned = pinned }

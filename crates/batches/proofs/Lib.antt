@@ -1,3 +1,4 @@
+pub mod Records
 pub mod Run
 pub mod Turns
 pub mod Batch

@@ -2,10 +2,10 @@
 -- Assumes nothing.
 use mathlib.Core.Path.{_≡_, refl, sym, ap, ap₂, subst, _∙_}
 use mathlib.Core.List.{List, [], _∷_, _++_, map, flatMap}
-use Prim.Native.Nat.{ℕ, zero, suc, _-_, _*_, _/_, _≤_}
+use Prim.Native.Nat.{ℕ, suc, _-_, _*_, _/_, _≤_}
 use native.Mathlib.Omega.{arith}
-use lib.ListN.{length, take, drop, length-drop}
-use lib.Seq.{take-at, length-take-le}
+use lib.ListN.{length, take, drop}
+use lib.Seq.{take-at}
 use Rattle.model.specs.Table.{capacity, mappings}
 use Rattle.model.specs.Cut.{after, operations}
 use Rattle.model.specs.Layout.{operationWords}
@@ -21,6 +21,7 @@ use Rattle.model.proofs.Demand3.{calls}
 use Rattle.batches.specs.Prelude.{Space, Mapping, Request, Grant}
 use Rattle.batches.specs.Batch.{recordsIn, requestsIn, turnsRows, afterAll, operationsAll, BatchOutcome}
 use Rattle.batches.specs.Grants.{told, wroteBy, wroteAll, OneByOne}
+use Rattle.batches.proofs.Records.{records-length}
 use Rattle.batches.proofs.Turns.{Turn, turn-passed}
 use Rattle.batches.proofs.Batch.{Granting, leaves}
 use Rattle.batches.proofs.Relent.{relent-same, relent-again, relent-mappings}
@@ -110,16 +111,12 @@ unfolding final wroteAll afterAll operationsAll flatMap
 ones s os [] e l left p g h = record { granted = tt; left = relent-same s (length os) l g; wrote = refl }
 ones s os (b ∷ recs) e l left p g h = ones-more s os b recs (e .0) (ones s os recs (e .1)) l left p g h
 
-records-length : (n : ℕ) (bs : List ℕ) → 40 * n ≤ length bs → Each (λ b. length b ≡ 40) (recordsIn n bs)
-unfolding recordsIn
-records-length zero bs h = tt
-records-length (suc n) bs h = (length-take-le 40 bs (omega arith), records-length n (drop 40 bs) (omega (arith, length-drop 40 bs)))
-
 pub one-by-one : (s : Space) (l : Lent) (ws os bs : List ℕ) (g : Grant) → Granting s l ws os bs g → OneByOne s l ws os bs g
 unfolding requestsIn
 one-by-one s l ws os bs g k = record {
   each-granted = w .granted;
   left = leaves s l ws os bs g k ∙ w .left;
+  ranges = ap (λ (g : Grant). g .ranges) (k .grant) ∙ ap (λ (k : Lent). k .ranges .count) (w .left);
   number = ap (λ (g : Grant). 14 * g .operations) (k .grant) ∙ sym (operations-words (operationsAll rs ms)) ∙ ap length (sym (w .wrote));
   operations = ap (λ (o : BatchOutcome). o .operations) (k .outcome)
       ∙ ap₂ (λ (vs : List ℕ) (n : ℕ). vs ++ drop (14 * n) os) (sym (w .wrote)) (sym (ap (λ (g : Grant). g .operations) (k .grant)));

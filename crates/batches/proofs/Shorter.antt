@@ -1,45 +1,21 @@
 -- A granted batch leaves what the shorter batches leave that it is cut into, where they are granted.
 -- Assumes nothing.
-use mathlib.Core.Path.{_≡_, sym, ap, ap₂, _∙_}
-use mathlib.Core.List.{List, [], _∷_, _++_, map, flatMap, map-append}
-use Prim.Native.Nat.{ℕ, zero, suc, _+_, _*_, _/_, _%_}
-use native.Mathlib.Omega.{arith}
-use lib.ListN.{length, drop, length-append, length-drop}
-use lib.Seq.{take-append-le, drop-append-le}
+use mathlib.Core.Path.{_≡_, sym, ap, _∙_}
+use mathlib.Core.List.{List, [], _∷_, _++_, flatMap}
+use Prim.Native.Nat.{ℕ}
+use lib.ListN.{length}
 use Rattle.model.specs.Table.{mappings}
-use Rattle.model.specs.Calls.{requestOf, Lent}
+use Rattle.model.specs.Calls.{Lent}
 use Rattle.model.specs.Demand3.{final, Everywhere, IsGrant}
 use Rattle.model.proofs.Tests.{tests}
 use Rattle.model.proofs.Granted.{Good, relent}
 use Rattle.batches.specs.Prelude.{Space, Mapping, Request}
 use Rattle.batches.specs.Batch.{recordsIn, requestsIn, afterAll}
 use Rattle.batches.specs.Grants.{Batch, answerToBatch, leftByBatch, Shorter}
+use Rattle.batches.proofs.Records.{requests-append}
 use Rattle.batches.proofs.Turns.{after-all-append}
 use Rattle.batches.proofs.Batch.{granting, room, leaves, kept}
 use Rattle.batches.proofs.Relent.{relent-same, relent-again, relent-mappings}
-
--- records in bytes that stand one behind the other
-records-append : (k m : ℕ) (xs bs : List ℕ) → length xs ≡ 40 * k → recordsIn (k + m) (xs ++ bs) ≡ recordsIn k xs ++ recordsIn m bs
-unfolding recordsIn
-records-append zero m [] bs e = let z : 0 + m ≡ m = omega arith in ap (λ (n : ℕ). recordsIn n bs) z
-records-append zero m (a ∷ xs) bs e = absurd (omega arith)
-records-append (suc k) m xs bs e =
-    ap (λ (n : ℕ). recordsIn n (xs ++ bs)) (suc-first k m)
-    ∙ ap₂ _∷_ (take-append-le 40 xs bs (omega arith))
-    (ap (recordsIn (k + m)) (drop-append-le 40 xs bs (omega arith)) ∙ records-append k m (drop 40 xs) bs (omega (arith, length-drop 40 xs)))
-  where
-    suc-first : (k m : ℕ) → suc k + m ≡ suc (k + m)
-    suc-first k m = omega arith
-
-requests-append : (xs bs : List ℕ) → length xs % 40 ≡ 0 → requestsIn (xs ++ bs) ≡ requestsIn xs ++ requestsIn bs
-unfolding requestsIn
-requests-append xs bs e =
-    ap (λ (n : ℕ). map requestOf (recordsIn n (xs ++ bs))) number
-    ∙ ap (map requestOf) (records-append (length xs / 40) (length bs / 40) xs bs (omega (arith, e)))
-    ∙ map-append requestOf (recordsIn (length xs / 40) xs) (recordsIn (length bs / 40) bs)
-  where
-    number : length (xs ++ bs) / 40 ≡ length xs / 40 + length bs / 40
-    number = omega (arith, e, length-append xs bs)
 
 -- what is lent is good, whatever number of words is lent for operations
 parts-left : (s : Space) (n : ℕ) (parts : List Batch) (l : Lent) → Good s n l → Everywhere (leftByBatch s) (λ k c. IsGrant (answerToBatch s k c)) l parts
