@@ -1,0 +1,16 @@
+pub mod Records
+pub mod Run
+pub mod Turns
+pub mod Batch
+pub mod Refusals
+pub mod Exactly
+pub mod Relent
+pub mod OneByOne
+pub mod Shorter
+pub mod Effect
+pub mod Replay
+pub mod Grants
+pub mod Demand3
+pub mod Base
+pub mod Example
+pub mod Worked

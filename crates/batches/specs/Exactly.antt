@@ -1,12 +1,12 @@
 -- The refusals of a batch, in words: a line's answer is given exactly if its rule is broken and no line's above it. What
 -- each kind of answer leaves.
-use Rattle.model.specs.Prelude.{_≡_, _⊎_, _↔_, List, [], _∷_, ℕ, suc, _+_, _-_, _*_, _/_, _%_, _≤_, _<_, length, replicate}
-use Rattle.model.specs.Calls.{Reply, refused, answered, mappings, after, operations, Lent, lookup}
-use Rattle.model.specs.Exactly.{_∈_, RefusalTable, line, otherwise, Gives, NoFlag, formLines, requestLines, refusal, lentLines}
+use Rattle.model.specs.Prelude.{_≡_, _⊎_, _↔_, List, [], _∷_, map, flatMap, ℕ, suc, _+_, _-_, _*_, _/_, _%_, _≤_, _<_, length, replicate}
+use Rattle.model.specs.Calls.{Reply, refused, answered, mappings, after, operations, requestOf, Lent, lookup}
+use Rattle.model.specs.Exactly.{Each, _∈_, RefusalTable, line, otherwise, Gives, NoFlag, formLines, requestLines, refusal, lentLines}
 use Rattle.model.specs.Exactly.{operationsLine, RoomRule, Pins}
 use Rattle.model.specs.declared.Seen.{Seen}
 use Rattle.batches.specs.Prelude.{Space, Mapping, Request, Grant}
-use Rattle.batches.specs.Batch.{requestsIn, batchGrant, BatchOutcome, bindBatch, batchReply}
+use Rattle.batches.specs.Batch.{recordsIn, requestsIn, batchGrant, BatchOutcome, bindBatch, batchReply}
 
 -- of the requests from the place p on, each on the mappings that the one before leaves, and with the words that are left
 -- for operations: 13, 14, 6 to 10, 11, 16
@@ -66,5 +66,8 @@ pub record BatchExactly : Type 0 where
   -- with words for as many operations as there are mappings, and for four more a request, no request gets 16
   pub never-short : (s : Space) (l : Lent) (ws os bs : List ℕ) (p : ℕ) → 14 * (l .table .count + 4 * length (requestsIn bs)) ≤ length os
       → bindBatch s l ws os bs .answer ≡ refused 16 p → ⊥
+  -- records of 40 bytes, put in a row, are read back in that order, and their requests
+  pub records : (recs : List (List ℕ)) → Each (λ b. length b ≡ 40) recs
+      → (recordsIn (length recs) (flatMap (λ b. b) recs) ≡ recs) × (requestsIn (flatMap (λ b. b) recs) ≡ map requestOf recs)
   -- no two answers of the enum read alike
   pub pinned : Pins batchReply

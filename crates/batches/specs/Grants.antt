@@ -32,6 +32,7 @@ wroteAll s l (c ∷ cs) = wroteBy s l c ++ wroteAll s (leftBy s l c) cs
 pub record OneByOne (s : Space) (l : Lent) (ws os bs : List ℕ) (g : Grant) : Type 0 where
   pub each-granted : Everywhere (leftBy s) (λ k c. IsGrant (answerTo s k c)) l (singles os bs)
   pub left : lentAfterBatch l (bindBatch s l ws os bs) ≡ final (leftBy s) l (singles os bs)
+  pub ranges : g .ranges ≡ final (leftBy s) l (singles os bs) .ranges .count
   pub number : 14 * g .operations ≡ length (wroteAll s l (singles os bs))
   pub operations : bindBatch s l ws os bs .operations ≡ wroteAll s l (singles os bs) ++ drop (14 * g .operations) os
   pub work : bindBatch s l ws os bs .work ≡ replicate (length ws) 0

@@ -29,13 +29,13 @@ use Rattle.model.proofs.ByRows.{ByRows, calls-by-rows}
 use Rattle.model.proofs.General.{service-demand3}
 
 -- k holds the mappings ms, as l's slice does, and l's list
-record HoldsLent (l : Lent) (ms : List Mapping) (k : Lent) : Type 0 where
-  table : Holds (l .table) ms (k .table)
-  list : k .ranges ≡ l .ranges
+pub record HoldsLent (l : Lent) (ms : List Mapping) (k : Lent) : Type 0 where
+  pub table : Holds (l .table) ms (k .table)
+  pub list : k .ranges ≡ l .ranges
 
 module _ (s : Space) (n : ℕ) where
   -- calls without the flag, with n words lent for operations
-  abbrev binding : Service Lent Call (Reply Grant)
+  abbrev pub binding : Service Lent Call (Reply Grant)
   binding = record {
     answer = answerTo s;
     next = leftBy s;
@@ -48,10 +48,10 @@ module _ (s : Space) (n : ℕ) where
     count = λ l. l .table .count;
   }
 
-  abbrev view : View Lent
+  abbrev pub view : View Lent
   view = record { table = λ l. mappings (l .table); Good = Good s n; Room = λ l k. k ≤ capacity (l .table) }
 
-  states : StateLaws view HoldsLent (λ l. l .table .count)
+  pub states : StateLaws view HoldsLent (λ l. l .table .count)
   states = record {
     holds-table = λ l k ms h. holds-mappings (l .table) (k .table) ms (h .table);
     holds-count = λ l k ms h. holds-count (l .table) (k .table) ms (h .table);
@@ -107,7 +107,7 @@ module _ (s : Space) (n : ℕ) where
       lent : List Row
       lent = lentRows s (operationsRow k (l .table) ∷ []) l
 
-  calls : CallLaws after binding view s
+  pub calls : CallLaws after binding view s
   calls = calls-by-rows after binding view s by-rows
 
 -- ── the claim for map and unmap, from the general one ──

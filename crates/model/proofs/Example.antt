@@ -20,40 +20,40 @@ use Rattle.model.proofs.Cuts.{piecesFrom, pieces}
 use Rattle.model.proofs.Pieces.{cut-pieces}
 use Rattle.model.proofs.Demand3.{demand-3}
 
-abbrev space : Space
+abbrev pub space : Space
 space = spaceOf 0 65536 0 0
 
 -- [0, 12288) of object 7 and [12288, 16384) of object 8, room for a third; [8192, 20480) is sparse, room for another
-abbrev start : Lent
+abbrev pub start : Lent
 start = record {
   table = record { words = 0 ∷ 12288 ∷ 7 ∷ 0 ∷ 12288 ∷ 4096 ∷ 8 ∷ 0 ∷ replicate 4 0; count = 2 };
   ranges = record { words = 8192 ∷ 12288 ∷ 0 ∷ 0 ∷ []; count = 1 };
 }
 
 -- map [0, 16384) of object 9 from offset 4096 on, cut at 4096 and 8192
-abbrev whole : Request
+abbrev pub whole : Request
 whole = byNumbers 0 0 16384 9 4096
 
-abbrev a : Request
+abbrev pub a : Request
 a = byNumbers 0 0 4096 9 4096
 
-abbrev b : Request
+abbrev pub b : Request
 b = byNumbers 0 4096 4096 9 8192
 
-abbrev c : Request
+abbrev pub c : Request
 c = byNumbers 0 8192 8192 9 12288
 
 abbrev cuts : List ℕ
 cuts = 4096 ∷ 8192 ∷ []
 
-abbrev parts : List Request
+abbrev pub parts : List Request
 parts = a ∷ b ∷ c ∷ []
 
 -- a call with an operation slice of 56 words, all x
 abbrev call : ℕ → Asking → Call
 call x q = record { asking = q; operations = replicate 56 x }
 
-abbrev uncut : Call
+abbrev pub uncut : Call
 uncut = call 0 (numbers 0 0 16384 9 4096)
 
 -- b, c, b, c, a
@@ -102,7 +102,7 @@ abbrev answers : Lent → List Call → List (Reply Grant)
 answers l [] = []
 answers l (d ∷ ds) = answerTo space l d ∷ answers (leftBy space l d) ds
 
-abbrev grant : ℕ → ℕ → Grant
+abbrev pub grant : ℕ → ℕ → Grant
 grant n k = record { operations = n; count = k; ranges = 1 }
 
 -- b comes too early: it would leave four mappings. c again takes no room
@@ -125,7 +125,7 @@ outcome = refl
 -- ── the claim about it ──
 
 -- no flag
-off : whole .flags ≡ 256 → ⊥
+pub off : whole .flags ≡ 256 → ⊥
 off e = omega arith
 
 pub granted : IsGrant (answerTo space start uncut)

@@ -121,7 +121,7 @@ unfolding above
 above-begins b [] = tt
 above-begins b (m ∷ ms) = each-prepend (λ x. b ≤ x .address) (upperPart b m) (above b ms) (λ k. omega arith) (above-begins b ms)
 
-replay-append : (os ps : List Operation) (ms : List Mapping) → replay (os ++ ps) ms ≡ Option·bind (replay os ms) (replay ps)
+pub replay-append : (os ps : List Operation) (ms : List Mapping) → replay (os ++ ps) ms ≡ Option·bind (replay os ms) (replay ps)
 unfolding replay Option·bind
 replay-append [] ps ms = refl
 replay-append (o ∷ os) ps ms = go (apply o ms) (replay-append os ps)
