@@ -1,7 +1,7 @@
 -- No row has the number 0, so a refusal's words are told from a grant's, and each reply is read back from its words.
 -- Assumes nothing.
 use mathlib.Core.Path.{_≡_, refl, sym, ap, subst, _∙_}
-use mathlib.Core.Logic.{_↔_, inr}
+use mathlib.Core.Logic.{_⊎_, _↔_, inl, inr}
 use mathlib.Core.List.{List, [], _∷_}
 use Prim.Native.Nat.{ℕ, _<_}
 use native.Mathlib.Omega.{arith}
@@ -17,14 +17,17 @@ use Rattle.model.specs.Rules.{sparseFlag, formRows, requestRows}
 use Rattle.model.specs.Table.{operationsRow}
 use Rattle.model.specs.Calls.{Asking, numbers, bytes, asked, requestOf, recordRow, recordRows, Lent, lentRows, purpose, lastRows, bindRows, grantFor, bind, seeIn, lookup, checkRows, checkRequest}
 use Rattle.model.specs.Exactly.{Each}
-use Rattle.model.proofs.Actions.{each-append, each-map}
+use Rattle.model.proofs.Actions.{each-mem, each-append, each-map}
 use Rattle.model.proofs.Rows.{not-both, decide-holds}
 use Rattle.model.proofs.Groups.{each-lent, each-form, each-request}
 use Rattle.model.proofs.Exactly.{answer-is}
+use Rattle.batches.specs.Batch.{requestsIn, bindBatch}
+use Rattle.batches.specs.Exactly.{ownNumbers, turnNumbers, Untouched, Emptied}
+use Rattle.batches.proofs.Refusals.{refuses}
 use Rattle.waylluqen.specs.declared.AnswerWords.{AnswerWords}
 use Rattle.waylluqen.specs.declared.Translation.{Translation}
 use Rattle.waylluqen.specs.Words.{shownWords, translationOf, answerOf}
-use Rattle.waylluqen.specs.Readings.{BindGives, LookupGives, Readings}
+use Rattle.waylluqen.specs.Readings.{BindGives, BatchGives, LookupGives, Readings}
 
 -- ── no row has the number 0 ──
 
@@ -70,6 +73,14 @@ bind-told a (s, l, os, q, e) =
     let rows = bindRows s l (length os) q in
     let grant = grantFor (purpose (asked q)) (asked q) l in
     subst Told (sym (answer-is (decide rows grant) (purpose (asked q)) (asked q) l os) ∙ e) (told rows grant (bind-numbered s l (length os) q))
+
+batch-told : (a : Reply Grant) → BatchGives a → Told a
+batch-told (answered g) b = tt
+batch-told (refused n p) (s, l, ws, os, bs, e) = go (refuses s l ws os bs n p e)
+  where
+    go : Untouched l ws os n p (bindBatch s l ws os bs) ⊎ Emptied l ws os (requestsIn bs) n p (bindBatch s l ws os bs) → 0 < n
+    go (inl k) = each-mem (λ m. 0 < m) ownNumbers n (omega arith, (omega arith, (omega arith, (omega arith, (omega arith, (omega arith, (omega arith, (omega arith, (omega arith, tt))))))))) (k .number)
+    go (inr k) = each-mem (λ m. 0 < m) turnNumbers n (omega arith, (omega arith, (omega arith, (omega arith, (omega arith, (omega arith, (omega arith, (omega arith, (omega arith, tt))))))))) (k .number)
 
 lookup-told : (a : Reply Seen) → LookupGives a → Told a
 unfolding lookup
@@ -132,9 +143,11 @@ pub readings : Readings
 unfolding checkRequest
 readings = record {
   bind-zero = λ count ranges a g. bind-zero count ranges a (bind-told a g);
+  batch-zero = λ count ranges a g. bind-zero count ranges a (batch-told a g);
   lookup-zero = λ a g. lookup-zero a (lookup-told a g);
   check-zero = λ bs s. check-zero (verdict (checkRows bs s)) (check-told bs s);
   bind-pins = λ count ranges a b g h. bind-pins count ranges a b (bind-told a g) (bind-told b h);
+  batch-pins = λ count ranges a b g h. bind-pins count ranges a b (batch-told a g) (batch-told b h);
   lookup-pins = λ a b g h. lookup-pins a b (lookup-told a g) (lookup-told b h);
 }
   where

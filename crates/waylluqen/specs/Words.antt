@@ -8,6 +8,7 @@ use Rattle.model.specs.declared.Shown.the-variants.{Nothing, Sparse, Object}
 use Rattle.model.specs.declared.Seen.{Seen}
 use Rattle.model.specs.declared.Grant.{Grant}
 use Rattle.model.specs.Calls.{Outcome}
+use Rattle.batches.specs.Batch.{BatchOutcome}
 use Rattle.waylluqen.specs.declared.Translation.{Translation}
 use Rattle.waylluqen.specs.declared.AnswerWords.{AnswerWords}
 
@@ -37,3 +38,13 @@ pub record Left : Type 0 where
 
 abbrev pub left : ℕ → ℕ → Outcome → Left
 left count ranges o = record { answer = answerOf count ranges (o .answer); table = o .table; ranges = o .ranges; operations = o .operations }
+
+-- the same of a batch, whose list is only read
+pub record BatchLeft : Type 0 where
+  pub answer : AnswerWords
+  pub table : List ℕ
+  pub work : List ℕ
+  pub operations : List ℕ
+
+abbrev pub batchLeft : ℕ → ℕ → BatchOutcome → BatchLeft
+batchLeft count ranges o = record { answer = answerOf count ranges (o .answer); table = o .table; work = o .work; operations = o .operations }

@@ -1,4 +1,5 @@
 // The C boundary: what a C or Rust driver links. host/include/waylluqen.h declares it.
+use batches::BatchAnswer;
 use bind::Numbers;
 use model::Answer;
 use model::Decoded;
@@ -14,7 +15,8 @@ ghost use mathlib.Core.List.{_∷_};
 ghost use Rattle.model.specs.Rows.{verdict};
 ghost use Rattle.model.specs.Rules.{spaceRow, requestRows};
 ghost use Rattle.model.specs.Calls.{numberOf, verdictReply, answerReply, foundReply, spaceOf, bytes, checkRequest, bind, lookup};
-ghost use Rattle.waylluqen.specs.Words.{shownWords, translationOf, answerOf, left};
+ghost use Rattle.batches.specs.Batch.{bindBatch, batchReply};
+ghost use Rattle.waylluqen.specs.Words.{shownWords, translationOf, answerOf, left, batchLeft};
 ghost use Rattle.bind.specs.Bound.{lentWords, numbersOf};
 
 // A space, as C hands it over.
@@ -266,6 +268,63 @@ pub extern "C" fn waylluqen_bind_record(
         record,
     );
     answer_words(answer, count, range_count)
+}
+
+// A batch's answer in words.
+fn batch_words(a: BatchAnswer, count: u64, ranges: u64) -> AnswerWords
+    ensures { λ r. ⌜ r ≡ answerOf count ranges (batchReply a) ⌝ }
+{
+    match a {
+        BatchAnswer::Refused(number, place) => AnswerWords {
+            refusal: number as u64,
+            place: place as u64,
+            operations: 0,
+            count: count,
+            ranges: ranges,
+        },
+        BatchAnswer::Granted(g) => AnswerWords {
+            refusal: 0,
+            place: 0,
+            operations: g.operations as u64,
+            count: g.count as u64,
+            ranges: g.ranges as u64,
+        },
+    }
+}
+
+// Maps and unmaps, by 0 to 64 records in a row, all or none: the batch's own refusals 12, 1, 2, 3, 15, 4, 5, 17, 18, and then
+// no word changes; a request's in its turn, 13, 14, 6 to 11, 16, with its place, and then the table is as before and every
+// other word that is lent for writing is zero; or a grant.
+#[no_mangle]
+pub extern "C" fn waylluqen_bind_batch(
+    space: SpaceWords,
+    ranges: &[u64],
+    range_count: u64,
+    table: &mut [u64],
+    count: u64,
+    work: &mut [u64],
+    operations: &mut [u64],
+    records: &[u8],
+) -> AnswerWords
+    ensures { λ a. ⌜ batchLeft count «range_count» (bindBatch (spaceOf (space .start) (space .size) (space .«reserved_start») (space .«reserved_size»)) (lentWords (now (ranges .entry)) «range_count» (now (table .entry)) count) (now (work .entry)) (now (operations .entry)) (now (records .entry))) ≡ record { answer = a; table = now (table .exit); work = now (work .exit); operations = now (operations .exit) } ⌝ }
+{
+    let s = space_of(
+        space.start,
+        space.size,
+        space.reserved_start,
+        space.reserved_size,
+    );
+    let answer = batch::bind_batch(
+        s,
+        ranges,
+        range_count as usize,
+        table,
+        count as usize,
+        work,
+        operations,
+        records,
+    );
+    batch_words(answer, count, range_count)
 }
 
 // The interface's number is in the name: header and ffi.rs need this very symbol, so that they link with no other edition of
