@@ -3,23 +3,23 @@
 -- Assumes nothing.
 use mathlib.Core.Path.{_≡_, refl, sym, ap, ap₂, _∙_}
 use mathlib.Core.Bool.{Bool, true, false}
-use mathlib.Core.List.{List, [], _∷_, flatMap}
-use Prim.Native.Nat.{ℕ, _*_}
-use native.Mathlib.Omega.{arith}
+use mathlib.Core.List.{List, [], _∷_}
+use Prim.Native.Nat.{ℕ}
 use lib.ListN.{length, replicate}
 use Rattle.model.specs.declared.Grant.{Grant}
 use Rattle.model.specs.declared.Mapping.{Mapping}
 use Rattle.model.specs.declared.Request.{Request}
 use Rattle.model.specs.declared.Space.{Space}
 use Rattle.model.specs.Rows.{all, choose, Row, Reply, refused, answered, decide, verdict}
-use Rattle.model.specs.Table.{Table, capacity, mappings, wordsOf, written, operationsRow}
+use Rattle.model.specs.Table.{capacity, mappings, operationsRow}
 use Rattle.model.specs.Calls.{Lent, lentRows}
-use Rattle.model.proofs.Tests.{tests, all-facts}
+use Rattle.model.proofs.Tests.{tests}
 use Rattle.model.proofs.Rows.{answered-passed}
-use Rattle.model.proofs.Groups.{LentPassed, lent-passed}
-use Rattle.model.proofs.Store.{length-words, length-mappings, words-mappings}
+use Rattle.model.proofs.Groups.{LentPassed, lent-passed, other-between}
+use Rattle.model.proofs.Store.{length-mappings}
 use Rattle.model.proofs.Zeros.{stale-zeros}
-use Rattle.model.proofs.Taken.{front-and-zeros}
+use Rattle.model.proofs.Granted.{Good}
+use Rattle.batches.proofs.Relent.{relent-same}
 use Rattle.batches.specs.Batch.{requestsIn, batchRow, workRow, batchRows, turnsRows, batchGrant, BatchOutcome, batchOutcome, turns, bindBatch}
 use Rattle.bind.proofs.Checked.{valid-by}
 use Rattle.change.specs.Change.{Changed}
@@ -81,12 +81,8 @@ module _ (s : Space) (l : Lent) (ws os bs : List ℕ) where
 
       whole : Whole (l .table)
       whole =
-          let t : Table = l .table in
-          let n : length (mappings t) ≡ t .count = length-mappings (t .count) (t .words) in (
-            front-and-zeros (4 * t .count) (t .words) (flatMap wordsOf (mappings t)) (words-mappings (t .count) (t .words) (omega (tests, passed .table .count)))
-                (length-words (mappings t) ∙ ap (λ (k : ℕ). 4 * k) n) (stale-zeros t .0 (passed .table .behind)),
-            n,
-          )
+          let good : Good s (length os) l = other-between passed (passed .table .others .0, tt) in
+          (sym (ap (λ (k : Lent). k .table .words) (relent-same s (length os) l good)), length-mappings (l .table .count) (l .table .words))
 
       pub batch-is : bindBatch s l ws os bs ≡ committed (l .ranges .count) (turned s 0 (requestsIn bs) (l .table) os) (l .table .words) ws os
       unfolding bindBatch committed

@@ -18,7 +18,7 @@ use Rattle.model.specs.Demand3.{IsGrant}
 use Rattle.model.proofs.Tests.{Alls, tests, all-facts, not-facts}
 use Rattle.model.proofs.Rows.{andThen, Passed, past, passes, answered-passed, not-both}
 use Rattle.model.proofs.Store.{length-mappings, holds-rewritten}
-use Rattle.model.proofs.Groups.{LentPassed, lent-passed, passed-lent}
+use Rattle.model.proofs.Groups.{LentPassed, lent-passed, passed-lent, other-between}
 use Rattle.model.proofs.Ask.{Asked}
 use Rattle.model.proofs.Granted.{Good, table-chain, relent, good-relent}
 use Rattle.model.proofs.Demand3.{HoldsLent}
@@ -33,15 +33,6 @@ pub batch-answer : (u : Reply (Unit {0})) (d : Reply Grant) (rs : List Request) 
 batch-answer (refused n p) d rs l ws os = refl
 batch-answer (answered u) (refused n p) rs l ws os = refl
 batch-answer (answered u) (answered g) rs l ws os = refl
-
--- what is lent passes with other rows between that pass
-pub other-between : {s : Space} {between others : List Row} {l : Lent} → LentPassed s between l → Passed others → LentPassed s others l
-other-between k h =
-    let p = k .table in
-    record {
-      table = record { space = p .space; length-right = p .length-right; others = h; count = p .count; places = p .places; behind = p .behind };
-      list = k .list;
-    }
 
 module _ (s : Space) (l : Lent) (ws os bs : List ℕ) where
   abbrev rs : List Request

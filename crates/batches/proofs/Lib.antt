@@ -1,5 +1,5 @@
+pub mod Lines
 pub mod Records
-pub mod Run
 pub mod Turns
 pub mod Batch
 pub mod Refusals

@@ -3,26 +3,27 @@
 use mathlib.Core.Path.{_≡_, refl, sym, ap, subst, _∙_}
 use mathlib.Core.Option.{Option, some, bind as Option·bind}
 use mathlib.Core.List.{List, [], _∷_, _++_, flatMap}
-use Prim.Native.Nat.{ℕ, _*_, _<_}
+use Prim.Native.Nat.{ℕ, _+_, _*_, _<_}
 use native.Mathlib.Omega.{arith}
 use lib.ListN.{length, drop, length-append, length-drop}
 use Rattle.model.specs.Table.{mappings}
-use Rattle.model.specs.Cut.{after, operations}
+use Rattle.model.specs.Cut.{new, after, operations, old, rests}
 use Rattle.model.specs.Layout.{operationWords}
 use Rattle.model.specs.Calls.{Lent}
 use Rattle.model.specs.Exactly.{Each}
 use Rattle.model.specs.Grants.{replay}
 use Rattle.model.proofs.Actions.{each-map}
-use Rattle.model.proofs.Run.{Run}
+use Rattle.model.proofs.Run.{Run, run-after}
 use Rattle.model.proofs.Chain.{chain-run}
-use Rattle.model.proofs.Operations.{operations-words}
+use Rattle.model.proofs.Operations.{flatMap-append, operations-words}
+use Rattle.model.proofs.Counts.{count-rule}
+use Rattle.model.proofs.Store.{length-mappings}
 use Rattle.model.proofs.Replay.{replay-append, replays}
 use Rattle.model.proofs.Ask.{Asked}
 use Rattle.model.proofs.Granted.{table-chain, relent}
 use Rattle.batches.specs.Prelude.{Space, Mapping, Request, Operation, Grant}
 use Rattle.batches.specs.Batch.{requestsIn, afterAll, operationsAll, batchGrant, BatchOutcome, bindBatch, lentAfterBatch}
 use Rattle.batches.specs.Grants.{ReplaysAll}
-use Rattle.batches.proofs.Run.{run-after}
 use Rattle.batches.proofs.Batch.{Granting, may, fits, room}
 use Rattle.batches.proofs.Relent.{relent-mappings}
 
@@ -34,12 +35,30 @@ replays-all (r ∷ rs) ms z run =
     ∙ ap (λ (o : Option (List Mapping)). Option·bind o (replay (operationsAll rs (after r ms)))) (replays r ms (z .0) run)
     ∙ replays-all rs (after r ms) (z .1) (run-after r ms run (z .0))
 
+-- the count rule, request by request
+counts-all : (rs : List Request) (ms : List Mapping) → Each (λ r. 0 < r .size) rs → Run 0 ms
+    → length (afterAll rs ms) + length (flatMap old (operationsAll rs ms)) ≡ length ms + length (flatMap rests (operationsAll rs ms)) + length (flatMap new rs)
+unfolding operationsAll afterAll flatMap
+counts-all [] ms z run = omega arith
+counts-all (r ∷ rs) ms z run =
+    let front = operations r ms in
+    let behind = operationsAll rs (after r ms) in
+    rw (flatMap-append old front behind, flatMap-append rests front behind)
+    (omega (
+      arith,
+      length-append (flatMap old front) (flatMap old behind),
+      length-append (flatMap rests front) (flatMap rests behind),
+      length-append (new r) (flatMap new rs),
+      count-rule r ms run (z .0),
+      counts-all rs (after r ms) (z .1) (run-after r ms run (z .0)),
+    ))
+
 pub replay-all : (s : Space) (l : Lent) (ws os bs : List ℕ) (g : Grant) → Granting s l ws os bs g
-    → ReplaysAll (l .table) (lentAfterBatch l (bindBatch s l ws os bs) .table) (operationsAll (requestsIn bs) (mappings (l .table))) os
+    → ReplaysAll (requestsIn bs) (l .table) (lentAfterBatch l (bindBatch s l ws os bs) .table) (operationsAll (requestsIn bs) (mappings (l .table))) os
     (bindBatch s l ws os bs .operations) g
 replay-all s l ws os bs g k =
-    subst (λ (o : BatchOutcome). ReplaysAll (l .table) (lentAfterBatch l o .table) ops os (o .operations) g) (sym (k .outcome))
-    (subst (ReplaysAll (l .table) (relent l (afterAll rs ms) .table) ops os (flatMap operationWords ops ++ drop (14 * length ops) os)) (sym (k .grant)) it)
+    subst (λ (o : BatchOutcome). ReplaysAll rs (l .table) (lentAfterBatch l o .table) ops os (o .operations) g) (sym (k .outcome))
+    (subst (ReplaysAll rs (l .table) (relent l (afterAll rs ms) .table) ops os (flatMap operationWords ops ++ drop (14 * length ops) os)) (sym (k .grant)) it)
   where
     rs : List Request
     rs = requestsIn bs
@@ -50,14 +69,19 @@ replay-all s l ws os bs g k =
     ops : List Operation
     ops = operationsAll rs ms
 
-    it : ReplaysAll (l .table) (relent l (afterAll rs ms) .table) ops os (flatMap operationWords ops ++ drop (14 * length ops) os) (batchGrant rs l)
+    sizes : Each (λ r. 0 < r .size) rs
+    sizes = each-map (Asked s) (λ r. 0 < r .size) rs (λ r a. a .not-empty) (may s l ws os bs g k)
+
+    run : Run 0 ms
+    run = chain-run s 0 _ ms (table-chain s (length os) l (k .good))
+
+    it : ReplaysAll rs (l .table) (relent l (afterAll rs ms) .table) ops os (flatMap operationWords ops ++ drop (14 * length ops) os) (batchGrant rs l)
     it = record {
       replayed =
-          replays-all rs ms (each-map (Asked s) (λ r. 0 < r .size) rs (λ r a. a .not-empty) (may s l ws os bs g k))
-          (chain-run s 0 _ ms (table-chain s (length os) l (k .good)))
+          replays-all rs ms sizes run
           ∙ ap some (sym (relent-mappings l (afterAll rs ms) (room s l ws os bs g k)));
       number = refl;
-      count = refl;
+      count = omega (arith, counts-all rs ms sizes run, length-mappings (l .table .count) (l .table .words));
       words = (
         refl,
         length-append (flatMap operationWords ops) (drop (14 * length ops) os)

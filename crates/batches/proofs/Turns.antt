@@ -16,7 +16,7 @@ use Rattle.model.proofs.Actions.{run}
 use Rattle.model.proofs.Tests.{Alls, tests, eq→eqb, all-facts}
 use Rattle.model.proofs.Rows.{andThen, decide-append, Passed, passed-split, not-both, past, passed-or-refused, decide-holds}
 use Rattle.model.proofs.Chain.{Chain}
-use Rattle.model.proofs.Run.{Run}
+use Rattle.model.proofs.Run.{Run, run-after}
 use Rattle.model.proofs.Table.{top}
 use Rattle.model.proofs.Operations.{operations-most}
 use Rattle.model.proofs.Counts.{operations-after-most}
@@ -24,7 +24,6 @@ use Rattle.model.proofs.Ask.{Asked, asked-by, by-asked}
 use Rattle.model.proofs.Granted.{after-chain}
 use Rattle.batches.specs.Prelude.{Space, Mapping, Request}
 use Rattle.batches.specs.Batch.{roomRow, fitRow, turnRows, turnsRows, afterAll, operationsAll}
-use Rattle.batches.proofs.Run.{run-after}
 
 -- ── all of them, one after another ──
 

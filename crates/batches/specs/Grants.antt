@@ -1,7 +1,7 @@
 -- What a granted batch does: what its requests do one by one, and shorter batches in the same order; demand 2 and the
 -- operations replayed, of the whole.
 use Rattle.model.specs.Prelude.{_≡_, some, List, [], _∷_, _++_, map, flatMap, ℕ, _+_, _-_, _*_, _/_, _≤_, _<_, length, take, drop, replicate}
-use Rattle.model.specs.Calls.{Reply, refused, answered, stop, Table, mappings, operationWords, recordBytes, bytes, Lent, bind, seeIn, lookup}
+use Rattle.model.specs.Calls.{Reply, refused, answered, stop, Table, mappings, new, old, rests, operationWords, recordBytes, bytes, Lent, bind, seeIn, lookup}
 use Rattle.model.specs.Exactly.{Each, TableRules}
 use Rattle.model.specs.Grants.{offMappings, shows, replay}
 use Rattle.model.specs.Demand3.{final, Everywhere, Call, answerTo, leftBy, IsGrant}
@@ -82,11 +82,13 @@ pub record EffectAll (s : Space) (rs : List Request) (l k : Lent) : Type 0 where
 
 -- ── the operations ──
 
--- g is the grant, os all operations, lent and written what the operation slice holds before the call and after it
-pub record ReplaysAll (t u : Table) (os : List Operation) (lent written : List ℕ) (g : Grant) : Type 0 where
+-- g is the grant, os the operations of all requests rs, lent and written what the operation slice holds before the call
+-- and after it
+pub record ReplaysAll (rs : List Request) (t u : Table) (os : List Operation) (lent written : List ℕ) (g : Grant) : Type 0 where
   pub replayed : replay os (mappings t) ≡ some (mappings u)
   pub number : g .operations ≡ length os
-  pub count : g .count ≡ u .count
+  -- count afterwards = count - hit + lower rests + upper rests + (1 for each map)
+  pub count : g .count + length (flatMap old os) ≡ t .count + length (flatMap rests os) + length (flatMap new rs)
   pub words : (written ≡ flatMap operationWords os ++ drop (14 * g .operations) lent) × (length written ≡ length lent)
 
 -- ── of every granted batch ──
@@ -94,7 +96,7 @@ pub record ReplaysAll (t u : Table) (os : List Operation) (lent written : List �
 pub record GrantedBatch (s : Space) (l : Lent) (ws os bs : List ℕ) (g : Grant) (o : BatchOutcome) : Type 0 where
   pub one-by-one : OneByOne s l ws os bs g
   pub demand-2 : EffectAll s (requestsIn bs) l (lentAfterBatch l o)
-  pub replay : ReplaysAll (l .table) (lentAfterBatch l o .table) (operationsAll (requestsIn bs) (mappings (l .table))) os (o .operations) g
+  pub replay : ReplaysAll (requestsIn bs) (l .table) (lentAfterBatch l o .table) (operationsAll (requestsIn bs) (mappings (l .table))) os (o .operations) g
 
 abbrev pub BatchGrants : Type 0
 BatchGrants = (s : Space) (l : Lent) (ws os bs : List ℕ) (g : Grant) → bindBatch s l ws os bs .answer ≡ answered g

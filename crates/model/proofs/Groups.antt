@@ -152,14 +152,17 @@ pub passed-lent : {s : Space} {between : List Row} {l : Lent} → LentPassed s b
 unfolding lentRows
 passed-lent {s} {between} {l} p = passed-join (tableRows s between (l .table)) _ (passed-table (p .table)) (p .list, tt)
 
--- a call that has nothing between passes too
-pub none-between : {s : Space} {between : List Row} {l : Lent} → LentPassed s between l → LentPassed s [] l
-none-between w =
+-- a call that has other rows between passes too, if they pass; one that has none
+pub other-between : {s : Space} {between others : List Row} {l : Lent} → LentPassed s between l → Passed others → LentPassed s others l
+other-between w h =
     let p = w .table in
     record {
-      table = record { space = p .space; length-right = p .length-right; others = tt; count = p .count; places = p .places; behind = p .behind };
+      table = record { space = p .space; length-right = p .length-right; others = h; count = p .count; places = p .places; behind = p .behind };
       list = w .list;
     }
+
+pub none-between : {s : Space} {between : List Row} {l : Lent} → LentPassed s between l → LentPassed s [] l
+none-between w = other-between w tt
 
 pub form-passed : (served : ℕ) (r : Request) → Passed (formRows served r) → FormPassed served r
 unfolding formRows

@@ -29,7 +29,7 @@ passed {l} (seen s x v e) = (s, lent-passed s [] l (answered-passed (lentRows s 
 passed {l} (granted s os q g e) = (s, none-between (granted-good s l os q g e))
 
 -- words in front, and zeros from place n on
-pub front-and-zeros : (n : ℕ) (ws vs : List ℕ) → vs ≡ take n ws → length vs ≡ n → drop n ws ≡ replicate (length ws - n) 0
+front-and-zeros : (n : ℕ) (ws vs : List ℕ) → vs ≡ take n ws → length vs ≡ n → drop n ws ≡ replicate (length ws - n) 0
     → ws ≡ vs ++ replicate (length ws - length vs) 0
 front-and-zeros n ws vs front k zeros = sym (take-append-drop n ws) ∙ rw (k, front, zeros)
 
