@@ -86,7 +86,7 @@ typedef char longest_table[WAYLLUQEN_TABLE_WORDS(WAYLLUQEN_MAX_MAPPINGS) == 1638
 typedef char longest_list[WAYLLUQEN_OPERATION_LIST_WORDS(4095 + 1) == 4097 * 14 ? 1 : -1];
 typedef char longest_ranges[WAYLLUQEN_RANGE_LIST_WORDS(63 + 1) == 128 ? 1 : -1];
 
-/* The longest batch has 2,560 bytes. Four operations for each request, and one more than mappings. */
+/* The longest batch has 2,560 bytes. Its operations: four a request, and capacity + 1. */
 typedef char longest_batch[WAYLLUQEN_BATCH_BYTES(63 + 1) == 2560 ? 1 : -1];
 typedef char batch_list[WAYLLUQEN_BATCH_LIST_WORDS(2 + 3, 1 + 1) == (5 + 1 + 8) * 14 ? 1 : -1];
 
