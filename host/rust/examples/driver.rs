@@ -373,8 +373,9 @@ impl AddressSpace {
         let mut table = self.table.table();
         let operations = table.bind(self.bounds, request, &mut self.operations)?;
         (self.table.count, self.table.range_count) = (table.count(), table.ranges().count());
+        let range = request.address..request.address + request.size;
         let asked = Asked {
-            ranges: vec![request.address..request.address + request.size],
+            ranges: vec![range],
             sparse: request.flags == Request::SPARSE,
         };
         let done = self
