@@ -274,8 +274,8 @@ impl PageTable {
         self.write_entries(counts, new, start..end_of(new))
     }
 
-    /// Carries out the operations in order. In a batch what was kept since the last map operation is
-    /// the next one's, since an unmap request keeps nothing.
+    /// Carries out the operations in order. In a batch what was kept since the last map operation
+    /// is the next one's, since an unmap request keeps nothing.
     fn carry_out(
         &mut self,
         counts: &mut Counts,
