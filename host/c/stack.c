@@ -408,8 +408,9 @@ static void check_measure(void)
     call.bind = waylluqen_bind;
 }
 
-#define ROOMS 3
-static const size_t rooms[ROOMS] = {1, 512, MOST_MAPPINGS};
+/* Where there is room for one mapping alone, none has to be cleared by memset. */
+#define ROOMS 4
+static const size_t rooms[ROOMS] = {1, 2, 512, MOST_MAPPINGS};
 
 static void print_most(size_t room, const size_t most[CALLS])
 {
@@ -427,7 +428,7 @@ static void check_most(size_t most[ROOMS][CALLS])
             if (most[i][which] >= TOO_MUCH) {
                 fail(calls[which].name, "is to take less than a kilobyte of stack, and takes", most[i][which]);
             }
-            if (i > 0 && most[i][which] > most[i - 1][which]) {
+            if (rooms[i] > 2 && most[i][which] > most[i - 1][which]) {
                 fail(calls[which].name, "takes more stack where there is more room:", most[i][which]);
             }
         }
