@@ -650,8 +650,8 @@ waylluqen_answer waylluqen_bind_record(waylluqen_space space, uint64_t *ranges, 
  *
  * 16 goes by the operations that a request has, so that an unmap of nothing never gets it.
  *
- * A batch leaves the same table as its records one by one by waylluqen_bind_record(), or in shorter
- * batches in the same order, wherever all of these are granted.
+ * A granted batch leaves the same table as its records one by one by waylluqen_bind_record(), and as
+ * shorter batches of them in the same order where all of these are granted.
  *
  * Returns: the first of %WAYLLUQEN_REFUSED_BAD_RECORD_LENGTH, %WAYLLUQEN_REFUSED_BAD_SPACE,
  * %WAYLLUQEN_REFUSED_BAD_TABLE_LENGTH, %WAYLLUQEN_REFUSED_SHORT_OPERATIONS,
