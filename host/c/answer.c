@@ -3,9 +3,9 @@
  * touched, and writes what they answer and leave to standard output. host/soak compares that.
  *
  * A call comes as a struct call, then the words of its list of sparse ranges and its table's words
- * unless it goes on with the last ones, its operation words, and its record's bytes. It leaves six
- * words of answer, then the list's words, the table's words and the operation words. Words are as
- * the machine has them.
+ * unless it goes on with the last ones, its words to work in, its operation words, and the bytes of
+ * its record or records. It leaves six words of answer, then the list's words, the table's words,
+ * those to work in and the operation words. Words are as the machine has them.
  */
 #define _DEFAULT_SOURCE /* for MAP_ANONYMOUS */
 
@@ -16,10 +16,16 @@
 
 #include "support.h"
 
-enum { BIND, BIND_RECORD, LOOKUP, CHECK_REQUEST };
+enum { BIND, BIND_RECORD, LOOKUP, CHECK_REQUEST, BIND_BATCH };
 
 /* What is lent at the back of its memory; the rest at the front. */
-enum { TABLE_AT_BACK = 1, OPERATIONS_AT_BACK = 2, RECORD_AT_BACK = 4, RANGES_AT_BACK = 8 };
+enum {
+    TABLE_AT_BACK = 1,
+    OPERATIONS_AT_BACK = 2,
+    RECORD_AT_BACK = 4,
+    RANGES_AT_BACK = 8,
+    WORK_AT_BACK = 16
+};
 
 #define ANSWER_WORDS 6
 
@@ -32,13 +38,14 @@ struct call {
     uint64_t range_count;
     uint64_t table_words;
     uint64_t count;
+    uint64_t work_words;
     uint64_t operation_words;
-    uint64_t record_bytes;
+    uint64_t record_bytes; /* of all records of a batch */
     waylluqen_request request;
     uint64_t address;
 };
 
-_Static_assert(sizeof(struct call) == 19 * sizeof(uint64_t), "19 words, without a gap");
+_Static_assert(sizeof(struct call) == 20 * sizeof(uint64_t), "20 words, without a gap");
 _Static_assert(sizeof(waylluqen_translation) == ANSWER_WORDS * sizeof(uint64_t), "the longest");
 
 /* Memories to lend from: a small one takes less time to fill and to look through. The last but one
@@ -58,6 +65,7 @@ struct area {
 
 static struct area ranges = {.name = "list of sparse ranges"};
 static struct area table = {.name = "table"};
+static struct area work = {.name = "work table"};
 static struct area operations = {.name = "operations"};
 static struct area record = {.name = "record"};
 
@@ -136,6 +144,7 @@ static int read_call(struct call *call)
     } else if (ranges.bytes != range_bytes || table.bytes != table_bytes) {
         fail("a call", "goes on with another list or table");
     }
+    lend_input(&work, call->work_words * sizeof(uint64_t), (call->at_back & WORK_AT_BACK) != 0);
     lend_input(&operations, call->operation_words * sizeof(uint64_t),
                (call->at_back & OPERATIONS_AT_BACK) != 0);
     lend_input(&record, call->record_bytes, (call->at_back & RECORD_AT_BACK) != 0);
@@ -157,9 +166,20 @@ static waylluqen_answer bind_record(const struct call *call)
                                  record.lent, call->record_bytes);
 }
 
+static waylluqen_answer bind_batch(const struct call *call)
+{
+    return waylluqen_bind_batch(call->space, words_of(&ranges), call->range_words,
+                                call->range_count, words_of(&table), call->table_words,
+                                call->count, words_of(&work), call->work_words,
+                                words_of(&operations), call->operation_words, record.lent,
+                                call->record_bytes);
+}
+
 static void ask(const struct call *call, uint64_t *answer)
 {
-    waylluqen_answer got = call->what == BIND ? bind(call) : bind_record(call);
+    waylluqen_answer got = call->what == BIND          ? bind(call)
+                           : call->what == BIND_RECORD ? bind_record(call)
+                                                       : bind_batch(call);
     memcpy(answer, &got, sizeof got);
 }
 
@@ -176,6 +196,7 @@ static void make(const struct call *call, uint64_t *answer)
     switch (call->what) {
     case BIND:
     case BIND_RECORD:
+    case BIND_BATCH:
         ask(call, answer);
         break;
     case LOOKUP:
@@ -202,6 +223,7 @@ static void make_checked(const struct call *call, uint64_t *answer)
     }
     check_beside(&ranges);
     check_beside(&table);
+    check_beside(&work);
     check_beside(&operations);
     check_beside(&record);
 }
@@ -222,6 +244,7 @@ int main(void)
     memset(unwritten, UNWRITTEN_BYTE, sizeof unwritten);
     prepare_area(&ranges);
     prepare_area(&table);
+    prepare_area(&work);
     prepare_area(&operations);
     prepare_area(&record);
     while (read_call(&call)) {
@@ -230,6 +253,7 @@ int main(void)
         write_all(answer, sizeof answer);
         write_all(ranges.lent, ranges.bytes);
         write_all(table.lent, table.bytes);
+        write_all(work.lent, work.bytes);
         write_all(operations.lent, operations.bytes);
         /* Now, so that a call that ends the program is known for the first without an answer. */
         if (fflush(stdout) != 0) {

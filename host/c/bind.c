@@ -25,11 +25,6 @@ struct test_case {
     int more_words; /* operation words lent beyond the least that will do */
 };
 
-/* The drawings' space, and a mapping there: pages [first, end), object, page of the object. */
-#define DRAWN {0, 16 * PAGE, 0, 0}
-#define P(first, end, object, offset) \
-    {(first) * PAGE, ((end) - (first)) * PAGE, object, (offset) * PAGE}
-
 /* Requests: in pages, and in bytes as the structure has them. */
 #define MAP(first, end, object, offset) \
     {WAYLLUQEN_OP_MAP, (first) * PAGE, ((end) - (first)) * PAGE, object, (offset) * PAGE}
@@ -38,15 +33,6 @@ struct test_case {
 /* A map and an unmap of the first page in the common space, with which nothing is wrong. */
 #define GOOD_MAP {WAYLLUQEN_OP_MAP, 0x100000, PAGE, 5, 0}
 #define GOOD_UNMAP {WAYLLUQEN_OP_UNMAP, 0x100000, PAGE, 0, 0}
-
-#define NONE {0, 0, 0, 0}
-#define MAPS(new) {WAYLLUQEN_KIND_MAP, 0, new, NONE, NONE}
-#define UNMAPS(keep, old) {WAYLLUQEN_KIND_UNMAP, keep, old, NONE, NONE}
-#define REMAPS(keep, old, lower, upper) {WAYLLUQEN_KIND_REMAP, keep, old, lower, upper}
-
-/* The number of mappings before, and how many there is room for. */
-#define ROOM(count, capacity) count, (capacity) * MAPPING_WORDS
-#define LIST(...) {__VA_ARGS__}
 
 /* In pages: one old mapping, or none, in room for eight. */
 #define OVER_ONE(name, request, expected, old, new, list) \

@@ -25,6 +25,20 @@ _Static_assert(sizeof(waylluqen_request) == 40, "five words, without a gap");
 _Static_assert(sizeof(waylluqen_answer) == 40, "five words, without a gap");
 _Static_assert(sizeof(struct operation) == OPERATION_WORDS * sizeof(uint64_t), "its words");
 
+/* The drawings' space, and a mapping there: pages [first, end), object, page of the object. */
+#define DRAWN {0, 16 * PAGE, 0, 0}
+#define P(first, end, object, offset) \
+    {(first) * PAGE, ((end) - (first)) * PAGE, object, (offset) * PAGE}
+
+#define NONE {0, 0, 0, 0}
+#define MAPS(new) {WAYLLUQEN_KIND_MAP, 0, new, NONE, NONE}
+#define UNMAPS(keep, old) {WAYLLUQEN_KIND_UNMAP, keep, old, NONE, NONE}
+#define REMAPS(keep, old, lower, upper) {WAYLLUQEN_KIND_REMAP, keep, old, lower, upper}
+#define LIST(...) {__VA_ARGS__}
+
+/* The number of mappings before, and how many there is room for. */
+#define ROOM(count, capacity) count, (capacity) * MAPPING_WORDS
+
 /* What a request answers, but for the list's count. */
 #define GRANTED(operations, count) {0, 0, operations, count, 0}
 #define REFUSED(number, count) {number, 0, 0, count, 0}

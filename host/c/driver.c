@@ -1,10 +1,10 @@
 /* SPDX-License-Identifier: MIT */
 /*
  * An example driver: it keeps one address space and carries each operation out on a page table,
- * here an array. Where that fails half-way, it goes back. It also keeps sparse ranges, and sees to
- * the entries of their pages. host/rust/examples/driver.rs is the same in Rust. Both print what
- * host/driver.out has, and end with 1 if a page entry is not what look-ups say. From the
- * repository's root:
+ * here an array. Where that fails half-way, it goes back. It takes requests one by one and in
+ * batches. It also keeps sparse ranges, and sees to the entries of their pages.
+ * host/rust/examples/driver.rs is the same in Rust. Both print what host/driver.out has, and end
+ * with 1 if a page entry is not what look-ups say. From the repository's root:
  *
  *     rt staticlib waylluqen
  *     gcc -std=c99 -O2 -Ihost/include host/c/driver.c target/staticlib/libwaylluqen.a -o driver
@@ -50,11 +50,13 @@ struct from_look_ups {
     uint64_t entries, look_ups;
 };
 
-/* All that a driver keeps for one address space: 64-bit words, with no gap between them. */
+/* All that a driver keeps for one address space, and scratch for the calls: 64-bit words, with no
+ * gap between them. */
 struct address_space {
     waylluqen_space bounds;
     struct table table;
-    uint64_t operations[WAYLLUQEN_OPERATION_LIST_WORDS(CAPACITY)];
+    uint64_t operations[WAYLLUQEN_BATCH_LIST_WORDS(CAPACITY, WAYLLUQEN_MAX_BATCH)];
+    uint64_t work[WAYLLUQEN_TABLE_WORDS(CAPACITY)]; /* a batch's */
     struct page_table pages;
     struct from_look_ups went_back; /* by the last going back */
     uint64_t compared;              /* how often the pages were compared with look-ups */
@@ -85,14 +87,37 @@ static const char *name_of(uint64_t object)
     return object < LENGTH(names) ? names[object] : "unknown";
 }
 
-static void print_refusal(waylluqen_answer answer)
+/* Whether a batch is refused for one of its requests. The answer's place is the request's then. */
+static bool is_of_request(uint64_t refusal)
+{
+    switch (refusal) {
+    case WAYLLUQEN_REFUSED_BAD_OP:
+    case WAYLLUQEN_REFUSED_BAD_FLAGS:
+    case WAYLLUQEN_REFUSED_UNALIGNED:
+    case WAYLLUQEN_REFUSED_OUTSIDE_SPACE:
+    case WAYLLUQEN_REFUSED_RESERVED:
+    case WAYLLUQEN_REFUSED_BAD_OBJECT:
+    case WAYLLUQEN_REFUSED_BAD_OFFSET:
+    case WAYLLUQEN_REFUSED_NO_ROOM:
+    case WAYLLUQEN_REFUSED_SHORT_OUTPUT:
+        return true;
+    default:
+        return false;
+    }
+}
+
+static void print_refusal(waylluqen_answer answer, bool batch)
 {
     static const char *const texts[] = {
 #define TEXT(refusal, text) [refusal] = text,
         WAYLLUQEN_REFUSALS(TEXT)
 #undef TEXT
     };
-    printf("  refused: %s", texts[answer.refusal]);
+    printf("  refused: ");
+    if (batch && is_of_request(answer.refusal)) {
+        printf("request %" PRIu64 ": ", answer.place);
+    }
+    printf("%s", texts[answer.refusal]);
     if (answer.refusal == WAYLLUQEN_REFUSED_BAD_MAPPING) {
         printf(" (place %" PRIu64 ")", answer.place);
     }
@@ -221,13 +246,13 @@ static bool write_entries(struct page_table *pages, struct counts *counts, const
 }
 
 /* Writes what was not kept: the entries in front of, between and behind those that were. A map is
- * the last operation of its list, and the others are in ascending order of their addresses. */
-static bool map(struct page_table *pages, struct counts *counts, const uint64_t *list,
+ * the last operation of its request, and the others are in ascending order of their addresses. */
+static bool map(struct page_table *pages, struct counts *counts, const uint64_t *first,
                 const uint64_t *operation)
 {
     const uint64_t *new = operation + WAYLLUQEN_OPERATION_MAPPING;
     uint64_t start = new[WAYLLUQEN_MAPPING_ADDRESS];
-    for (const uint64_t *old = list; old < operation; old += WAYLLUQEN_OPERATION_WORDS) {
+    for (const uint64_t *old = first; old < operation; old += WAYLLUQEN_OPERATION_WORDS) {
         if (old[WAYLLUQEN_OPERATION_KEEP]) {
             struct range kept = lost(old);
             if (!write_entries(pages, counts, new, start, kept.start)) {
@@ -239,17 +264,21 @@ static bool map(struct page_table *pages, struct counts *counts, const uint64_t 
     return write_entries(pages, counts, new, start, end_of(new));
 }
 
-/* Carries out the operations in order; false if one failed, perhaps half-way. */
+/* Carries out the operations in order; false if one failed, perhaps half-way. In a batch what was
+ * kept since the last map operation is the next one's, since an unmap request keeps nothing. */
 static bool carry_out(struct address_space *space, struct counts *counts, uint64_t operations)
 {
-    const uint64_t *list = space->operations;
-    for (uint64_t i = 0; i < operations; i++) {
-        const uint64_t *operation = list + i * WAYLLUQEN_OPERATION_WORDS;
+    const uint64_t *operation = space->operations, *first = operation;
+    const uint64_t *end = operation + operations * WAYLLUQEN_OPERATION_WORDS;
+    for (; operation < end; operation += WAYLLUQEN_OPERATION_WORDS) {
         bool maps = operation[WAYLLUQEN_OPERATION_KIND] == WAYLLUQEN_KIND_MAP;
         /* A remap is an unmap too: its rests show what they showed. */
-        if (!(maps ? map(&space->pages, counts, list, operation)
+        if (!(maps ? map(&space->pages, counts, first, operation)
                    : unmap(space, counts, operation))) {
             return false;
+        }
+        if (maps) {
+            first = operation + WAYLLUQEN_OPERATION_WORDS;
         }
     }
     return true;
@@ -320,14 +349,28 @@ static bool write_sparse(struct address_space *space, struct counts *counts, str
     return true;
 }
 
+/* The ranges that were asked for, more than one by a batch, and whether with the sparse flag. */
+struct asked {
+    struct range ranges[WAYLLUQEN_MAX_BATCH];
+    uint64_t number;
+    bool sparse;
+};
+
 /* Takes back what failed half-way: the table by its copy, and the entries by look-ups in it. Only
- * pages of the asked range can have changed; one that was kept gets the entry that it has. No
+ * pages of the asked ranges can have changed; one that was kept gets the entry that it has. No
  * memory is needed for what was there before, if the page table gives none back until all is
  * carried out. */
-static void go_back(struct address_space *space, const struct table *before, struct range asked)
+static void go_back(struct address_space *space, const struct table *before,
+                    const struct asked *asked)
 {
     space->table = *before;
-    space->went_back = write_shown(space, asked); /* not refused, since the bind took this table */
+    space->went_back = (struct from_look_ups){0};
+    for (uint64_t i = 0; i < asked->number; i++) {
+        /* not refused, since the bind took this table */
+        struct from_look_ups written = write_shown(space, asked->ranges[i]);
+        space->went_back.entries += written.entries;
+        space->went_back.look_ups += written.look_ups;
+    }
 }
 
 static void print_grant(const struct address_space *space, waylluqen_answer granted, bool sparse,
@@ -344,26 +387,20 @@ static void print_grant(const struct address_space *space, waylluqen_answer gran
     printf(", %" PRIu64 " sparse\n", counts.sparse);
 }
 
-/* What was asked for, and whether with the sparse flag. */
-struct asked {
-    struct range range;
-    bool sparse;
-};
-
 /* Carries a grant out, or goes back. Either way a driver then flushes the GPU's TLB, but not for
  * what was kept. */
 static enum outcome finish(struct address_space *space, const struct table *before,
-                           waylluqen_answer granted, struct asked asked)
+                           waylluqen_answer granted, const struct asked *asked)
 {
     struct counts counts = {0};
     space->table.count = granted.count;
     space->table.range_count = granted.ranges;
-    if (!(asked.sparse ? write_sparse(space, &counts, asked.range)
-                       : carry_out(space, &counts, granted.operations))) {
-        go_back(space, before, asked.range);
+    if (!(asked->sparse ? write_sparse(space, &counts, asked->ranges[0])
+                        : carry_out(space, &counts, granted.operations))) {
+        go_back(space, before, asked);
         return WENT_BACK;
     }
-    print_grant(space, granted, asked.sparse, counts);
+    print_grant(space, granted, asked->sparse, counts);
     return CARRIED_OUT;
 }
 
@@ -372,15 +409,15 @@ static enum outcome finish(struct address_space *space, const struct table *befo
 static enum outcome bind(struct address_space *space, waylluqen_request request)
 {
     struct table before = space->table, *table = &space->table;
-    struct asked asked = {{request.address, request.address + request.size}, false};
+    struct asked asked = {{{request.address, request.address + request.size}}, 1, false};
     waylluqen_answer answer = waylluqen_bind(
         space->bounds, table->ranges, LENGTH(table->ranges), table->range_count, table->words,
         LENGTH(table->words), table->count, space->operations, LENGTH(space->operations), request);
     if (answer.refusal != WAYLLUQEN_OK) {
-        print_refusal(answer);
+        print_refusal(answer, false);
         return REFUSED;
     }
-    return finish(space, &before, answer, asked);
+    return finish(space, &before, answer, &asked);
 }
 
 /* Some bytes of a record. */
@@ -393,6 +430,13 @@ static uint64_t get(const uint8_t *field, int bytes)
     return value;
 }
 
+/* What a record asks for. */
+static struct range range_of(const uint8_t *record)
+{
+    uint64_t start = get(record + WAYLLUQEN_RECORD_ADDR, 8);
+    return (struct range){start, start + get(record + WAYLLUQEN_RECORD_RANGE, 8)};
+}
+
 static enum outcome bind_record(struct address_space *space, const uint8_t *record, size_t bytes)
 {
     struct table before = space->table, *table = &space->table;
@@ -401,14 +445,33 @@ static enum outcome bind_record(struct address_space *space, const uint8_t *reco
         LENGTH(table->words), table->count, space->operations, LENGTH(space->operations), record,
         bytes);
     if (answer.refusal != WAYLLUQEN_OK) {
-        print_refusal(answer);
+        print_refusal(answer, false);
         return REFUSED;
     }
     /* It is granted, so it has all its bytes. */
-    uint64_t start = get(record + WAYLLUQEN_RECORD_ADDR, 8);
-    uint64_t end = start + get(record + WAYLLUQEN_RECORD_RANGE, 8);
     bool sparse = get(record + WAYLLUQEN_RECORD_FLAGS, 4) == WAYLLUQEN_FLAG_SPARSE;
-    return finish(space, &before, answer, (struct asked){{start, end}, sparse});
+    struct asked asked = {{range_of(record)}, 1, sparse};
+    return finish(space, &before, answer, &asked);
+}
+
+/* Records in a row, all or none. */
+static enum outcome bind_batch(struct address_space *space, const uint8_t *records, size_t bytes)
+{
+    struct table before = space->table, *table = &space->table;
+    struct asked asked = {.number = bytes / WAYLLUQEN_RECORD_BYTES};
+    waylluqen_answer answer = waylluqen_bind_batch(
+        space->bounds, table->ranges, LENGTH(table->ranges), table->range_count, table->words,
+        LENGTH(table->words), table->count, space->work, LENGTH(space->work), space->operations,
+        LENGTH(space->operations), records, bytes);
+    if (answer.refusal != WAYLLUQEN_OK) {
+        print_refusal(answer, true);
+        return REFUSED;
+    }
+    /* It is granted, so there are no more of them than a batch may have. */
+    for (uint64_t i = 0; i < asked.number; i++) {
+        asked.ranges[i] = range_of(records + i * WAYLLUQEN_RECORD_BYTES);
+    }
+    return finish(space, &before, answer, &asked);
 }
 
 /* Compares each page entry with look-ups of the page's first and last byte. */
@@ -529,9 +592,19 @@ static void ask_with_broken_table(const struct address_space *space)
     ask_in_vain(&sparse, "unmap with a count of ranges that is too low");
 }
 
-/* Lets a request fail after no page entry, after one and so on, until it goes through. It comes by
- * numbers, or by a record where there is one. */
-static void fail_half_way(struct address_space *space, const uint8_t *record,
+/* Asks by a batch if there are several records, by a record if there is one, else by numbers. */
+static enum outcome ask_in_any_form(struct address_space *space, const uint8_t *records,
+                                    size_t number, waylluqen_request request)
+{
+    if (number == 0) {
+        return bind(space, request);
+    }
+    return number == 1 ? bind_record(space, records, WAYLLUQEN_RECORD_BYTES)
+                       : bind_batch(space, records, WAYLLUQEN_BATCH_BYTES(number));
+}
+
+/* Lets a request fail after no page entry, after one and so on, until it goes through. */
+static void fail_half_way(struct address_space *space, const uint8_t *records, size_t number,
                           waylluqen_request request)
 {
     struct table before = space->table;
@@ -539,8 +612,7 @@ static void fail_half_way(struct address_space *space, const uint8_t *record,
     uint64_t failed = 0;
     for (;; failed++) {
         space->pages.memory = failed;
-        outcome = record == NULL ? bind(space, request)
-                                 : bind_record(space, record, WAYLLUQEN_RECORD_BYTES);
+        outcome = ask_in_any_form(space, records, number, request);
         compare(space);
         if (outcome != WENT_BACK) {
             break;
@@ -577,13 +649,77 @@ static void ask_without_memory(struct address_space *space)
         uint8_t record[WAYLLUQEN_RECORD_BYTES];
         printf("%s, at first without memory\n", asked[i].what);
         make_record(record, asked[i].request, 0);
-        fail_half_way(space, asked[i].by_record ? record : NULL, asked[i].request);
+        fail_half_way(space, record, asked[i].by_record ? 1 : 0, asked[i].request);
+    }
+}
+
+enum { PLAIN = 0, SPARSE = WAYLLUQEN_FLAG_SPARSE };
+
+/* Batches: the last request of one maps over entries that an earlier one kept. The others have a
+ * request at their end, or before it, that is refused; nothing is left of them then. */
+enum { MOST_AT_ONCE = 6 };
+static const struct batch {
+    const char *what;
+    bool refused;
+    uint64_t flags; /* of the second */
+    size_t requests;
+    waylluqen_request request[MOST_AT_ONCE];
+} batches[] = {
+    {"start up in one batch", false, PLAIN, 6,
+     {{WAYLLUQEN_OP_MAP, 0x100000, 8 * PAGE, FRAMEBUFFER, 0},
+      {WAYLLUQEN_OP_MAP, 0x102000, 2 * PAGE, TEXTURE, 0x500000},
+      {WAYLLUQEN_OP_MAP, 0x102000, 5 * PAGE, TEXTURE, 0x500000},
+      {WAYLLUQEN_OP_UNMAP, 0x107000, 1 * PAGE, 0, 0},
+      {WAYLLUQEN_OP_MAP, 0x110000, 2 * PAGE, RING, 0},
+      {WAYLLUQEN_OP_MAP, 0x103000, 2 * PAGE, RING, 0}}},
+    {"change all of it, and map the reservation", true, PLAIN, 3,
+     {{WAYLLUQEN_OP_UNMAP, 0x100000, 8 * PAGE, 0, 0},
+      {WAYLLUQEN_OP_MAP, 0x100000, 4 * PAGE, TEXTURE, 0},
+      {WAYLLUQEN_OP_MAP, 0x10d000, 2 * PAGE, RING, 0}}},
+    {"reserve a sparse texture in a batch", true, SPARSE, 3,
+     {{WAYLLUQEN_OP_UNMAP, 0x100000, 8 * PAGE, 0, 0},
+      {WAYLLUQEN_OP_MAP, 0x112000, 8 * PAGE, 0, 0},
+      {WAYLLUQEN_OP_MAP, 0x112000, 4 * PAGE, TILES, 0}}},
+    {"shut down in one batch", false, PLAIN, 2,
+     {{WAYLLUQEN_OP_UNMAP, 0x100000, 8 * PAGE, 0, 0},
+      {WAYLLUQEN_OP_UNMAP, 0x110000, 2 * PAGE, 0, 0}}},
+};
+
+/* Of a refused batch nothing is carried out, and nothing has to be taken back. */
+static void ask_batch_in_vain(struct address_space *space, const uint8_t *records, size_t bytes)
+{
+    struct address_space before = *space;
+    memset(before.operations, 0, sizeof before.operations);
+    memset(before.work, 0, sizeof before.work);
+    if (bind_batch(space, records, bytes) != REFUSED ||
+        memcmp(space, &before, sizeof before) != 0) {
+        fail("a refused batch left something, of bytes", bytes);
+    }
+    compare(space);
+}
+
+/* An array of requests, as a program hands it over in one ioctl. */
+static void ask_by_batch(struct address_space *space)
+{
+    for (size_t i = 0; i < LENGTH(batches); i++) {
+        const struct batch *batch = &batches[i];
+        uint8_t records[WAYLLUQEN_BATCH_BYTES(MOST_AT_ONCE)];
+        for (size_t j = 0; j < batch->requests; j++) {
+            make_record(records + j * WAYLLUQEN_RECORD_BYTES, batch->request[j],
+                        j == 1 ? batch->flags : PLAIN);
+        }
+        if (batch->refused) {
+            printf("%s\n", batch->what);
+            ask_batch_in_vain(space, records, WAYLLUQEN_BATCH_BYTES(batch->requests));
+        } else {
+            printf("%s, at first without memory\n", batch->what);
+            fail_half_way(space, records, batch->requests, batch->request[0]);
+        }
     }
 }
 
 /* A sparse texture: all its addresses are reserved at once, tiles are mapped and unmapped in it,
  * and in the end it is released. Then a range that lies over mappings, which stays. */
-enum { PLAIN = 0, SPARSE = WAYLLUQEN_FLAG_SPARSE };
 static const struct {
     const char *what;
     bool refused;
@@ -614,7 +750,7 @@ static void ask_for_sparse(struct address_space *space)
         make_record(record, request, for_sparse[i].flags);
         if (!for_sparse[i].refused) {
             printf("%s, at first without memory\n", for_sparse[i].what);
-            fail_half_way(space, record, request);
+            fail_half_way(space, record, 1, request);
             continue;
         }
         printf("%s\n", for_sparse[i].what);
@@ -651,6 +787,7 @@ int main(void)
     static const uint64_t addresses[] = {0x100fff, 0x102010, 0x105000, 0x108000, 0x10c000};
     struct address_space space = {.bounds = {START, PAGES * PAGE, START + 14 * PAGE, 2 * PAGE},
                                   .pages.memory = PLENTY};
+    ask_by_batch(&space);
     ask(&space);
     ask_by_record(&space);
     ask_without_memory(&space);

@@ -6,7 +6,7 @@
  */
 #include "waylluqen.h"
 
-enum { CAPACITY = 8, RANGES = 2 };
+enum { CAPACITY = 8, RANGES = 2, REQUESTS = 2 };
 
 /* What a program starts with, x86-64 Linux: a stack that is aligned as a call expects. */
 __asm__(".globl _start\n"
@@ -31,10 +31,11 @@ void *memset(void *to, int byte, size_t bytes)
 
 static uint64_t table[WAYLLUQEN_TABLE_WORDS(CAPACITY)];
 static uint64_t ranges[WAYLLUQEN_RANGE_LIST_WORDS(RANGES)];
-static uint64_t operations[WAYLLUQEN_OPERATION_LIST_WORDS(CAPACITY)];
+static uint64_t work[WAYLLUQEN_TABLE_WORDS(CAPACITY)];
+static uint64_t operations[WAYLLUQEN_BATCH_LIST_WORDS(CAPACITY, REQUESTS)];
 static const size_t table_words = WAYLLUQEN_TABLE_WORDS(CAPACITY);
 static const size_t range_words = WAYLLUQEN_RANGE_LIST_WORDS(RANGES);
-static const size_t operation_words = WAYLLUQEN_OPERATION_LIST_WORDS(CAPACITY);
+static const size_t operation_words = WAYLLUQEN_BATCH_LIST_WORDS(CAPACITY, REQUESTS);
 static const waylluqen_space space = {0x100000, 0x100000, 0, 0};
 
 static waylluqen_answer bind_record(uint64_t range_count, uint64_t count, const uint8_t *record)
@@ -96,6 +97,44 @@ static int make_sparse(uint64_t count)
     return 0;
 }
 
+static waylluqen_answer bind_batch(uint64_t count, const uint8_t *records)
+{
+    return waylluqen_bind_batch(space, ranges, range_words, 1, table, table_words, count, work,
+                                table_words, operations, operation_words, records,
+                                WAYLLUQEN_BATCH_BYTES(REQUESTS));
+}
+
+/* What is left on both sides of the hole goes, and the page behind it is mapped, in one batch. One
+ * with a request that is refused leaves the table as it is, and says which request it is. */
+static int bind_all(uint64_t count)
+{
+    uint8_t records[WAYLLUQEN_BATCH_BYTES(REQUESTS)] = {WAYLLUQEN_OP_UNMAP};
+    uint8_t *second = records + WAYLLUQEN_RECORD_BYTES;
+    waylluqen_answer answer;
+
+    records[WAYLLUQEN_RECORD_ADDR + 2] = 0x10;
+    records[WAYLLUQEN_RECORD_RANGE + 1] = 0x40;
+    second[WAYLLUQEN_RECORD_HANDLE] = 9;
+    second[WAYLLUQEN_RECORD_ADDR + 1] = 0x30;
+    second[WAYLLUQEN_RECORD_ADDR + 2] = 0x10;
+    second[WAYLLUQEN_RECORD_RANGE + 1] = 0x10;
+    work[0] = 1;
+    answer = bind_batch(count, records);
+    if (answer.refusal != WAYLLUQEN_OK || answer.operations != 3 || answer.count != 1 ||
+        answer.ranges != 1 || table[WAYLLUQEN_MAPPING_ADDRESS] != 0x103000 || work[0] != 0 ||
+        operations[2 * WAYLLUQEN_OPERATION_WORDS] != WAYLLUQEN_KIND_MAP) {
+        return __LINE__;
+    }
+    second[WAYLLUQEN_RECORD_HANDLE] = 0;
+    answer = bind_batch(1, records);
+    if (answer.refusal != WAYLLUQEN_REFUSED_BAD_OBJECT || answer.place != 1 || answer.count != 1 ||
+        table[WAYLLUQEN_MAPPING_ADDRESS] != 0x103000 ||
+        operations[WAYLLUQEN_OPERATION_KIND] != 0) {
+        return __LINE__;
+    }
+    return 0;
+}
+
 int run(void)
 {
     const waylluqen_request map = {WAYLLUQEN_OP_MAP, 0x100000, 0x3000, 7, 0};
@@ -122,5 +161,6 @@ int run(void)
         return __LINE__;
     }
     line = look_up(answer.count);
-    return line != 0 ? line : make_sparse(answer.count);
+    line = line != 0 ? line : make_sparse(answer.count);
+    return line != 0 ? line : bind_all(answer.count);
 }

@@ -24,14 +24,16 @@ SAME(WAYLLUQEN_REFUSED_NO_ROOM, 11);
 SAME(WAYLLUQEN_REFUSED_BAD_RECORD_LENGTH, 12);
 SAME(WAYLLUQEN_REFUSED_BAD_OP, 13);
 SAME(WAYLLUQEN_REFUSED_BAD_FLAGS, 14);
+SAME(WAYLLUQEN_REFUSED_BAD_WORK_LENGTH, 15);
+SAME(WAYLLUQEN_REFUSED_SHORT_OUTPUT, 16);
 SAME(WAYLLUQEN_REFUSED_STALE_WORDS, 17);
 SAME(WAYLLUQEN_REFUSED_BAD_RANGES, 18);
 SAME(WAYLLUQEN_REFUSED_RANGE_OVERLAPS, 19);
 SAME(WAYLLUQEN_REFUSED_NO_SUCH_RANGE, 20);
 
-/* The list has a text for each refusal: 1 to 14, and 17 to 20. */
+/* The list has a text for each refusal: 1 to 20. */
 #define TEXT(refusal, text) +(sizeof(text) > 1 ? (1u << (refusal)) : 0)
-typedef char texts[(WAYLLUQEN_REFUSALS(TEXT)) == (1u << 15) - 2 + (15u << 17) ? 1 : -1];
+typedef char texts[(WAYLLUQEN_REFUSALS(TEXT)) == (1u << 21) - 2 ? 1 : -1];
 
 SAME(WAYLLUQEN_OP_MAP, 0);
 SAME(WAYLLUQEN_OP_UNMAP, 1);
@@ -75,6 +77,7 @@ SAME(WAYLLUQEN_RECORD_BYTES, 4 * 4 + 3 * 8);
 SAME(WAYLLUQEN_PAGE_SIZE, 4096);
 SAME(WAYLLUQEN_MAX_MAPPINGS, 4096);
 SAME(WAYLLUQEN_MAX_RANGES, 64);
+SAME(WAYLLUQEN_MAX_BATCH, 64);
 SAME(WAYLLUQEN_LIMIT, 281474976710656ull);
 SAME(WAYLLUQEN_MAX_OBJECT, 4294967295ull);
 
@@ -82,6 +85,10 @@ SAME(WAYLLUQEN_MAX_OBJECT, 4294967295ull);
 typedef char longest_table[WAYLLUQEN_TABLE_WORDS(WAYLLUQEN_MAX_MAPPINGS) == 16384 ? 1 : -1];
 typedef char longest_list[WAYLLUQEN_OPERATION_LIST_WORDS(4095 + 1) == 4097 * 14 ? 1 : -1];
 typedef char longest_ranges[WAYLLUQEN_RANGE_LIST_WORDS(63 + 1) == 128 ? 1 : -1];
+
+/* The longest batch has 2,560 bytes. Its operations: four a request, and capacity + 1. */
+typedef char longest_batch[WAYLLUQEN_BATCH_BYTES(63 + 1) == 2560 ? 1 : -1];
+typedef char batch_list[WAYLLUQEN_BATCH_LIST_WORDS(2 + 3, 1 + 1) == (5 + 1 + 8) * 14 ? 1 : -1];
 
 LONG(waylluqen_space, 4);
 AT(waylluqen_space, start, 0);

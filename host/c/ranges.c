@@ -73,7 +73,6 @@ struct flag_case {
 #define ADD(start, size) {0, SPARSE, 0, 0, start, 0, size}
 #define REMOVE(start, size) {1, SPARSE, 0, 0, start, 0, size}
 #define REQUEST(...) {__VA_ARGS__}
-#define LIST(...) {__VA_ARGS__}
 #define NO_MAPPING 0, MAPPING_WORDS, {{0, 0, 0, 0}}
 #define FIVE_MAPPINGS 5, 5 * MAPPING_WORDS, FIVE
 #define ONE_MAPPING(...) 1, 2 * MAPPING_WORDS, {{__VA_ARGS__}}

@@ -18,8 +18,11 @@
 /* What the header promises: a call takes less. */
 #define TOO_MUCH 1024
 
+/* A batch has as many as it may: all are the request of the case. */
+#define REQUESTS 64
+
 #define TABLE_WORDS WAYLLUQEN_TABLE_WORDS(MOST_MAPPINGS)
-#define LIST_WORDS WAYLLUQEN_OPERATION_LIST_WORDS(MOST_MAPPINGS)
+#define LIST_WORDS WAYLLUQEN_BATCH_LIST_WORDS(MOST_MAPPINGS, REQUESTS)
 #define LONGEST_RANGE_LIST WAYLLUQEN_RANGE_LIST_WORDS(MOST_RANGES)
 
 typedef waylluqen_answer bind_function(waylluqen_space, const uint64_t *, size_t, uint64_t, uint64_t *, size_t,
@@ -36,11 +39,12 @@ static struct {
     size_t list_words;
     waylluqen_request request;
     uint8_t record[RECORD_BYTES];
+    uint8_t records[REQUESTS * RECORD_BYTES];
     uint64_t address;
     uint64_t refusal;
 } call;
 
-static uint64_t ranges[LONGEST_RANGE_LIST], table[TABLE_WORDS], list[LIST_WORDS];
+static uint64_t ranges[LONGEST_RANGE_LIST], table[TABLE_WORDS], work[TABLE_WORDS], list[LIST_WORDS];
 
 static _Alignas(64) uint8_t stack[1 << 16];
 static uint8_t *before; /* the stack pointer before the arguments are pushed */
@@ -65,6 +69,15 @@ static void make_bind_record(void)
                        .refusal;
 }
 
+static void make_bind_batch(void)
+{
+    NOTE_STACK_POINTER();
+    call.refusal = waylluqen_bind_batch(call.space, ranges, call.range_words, call.range_count, table,
+                                        call.table_words, call.count, work, call.table_words, list, call.list_words,
+                                        call.records, sizeof call.records)
+                       .refusal;
+}
+
 static void make_lookup(void)
 {
     NOTE_STACK_POINTER();
@@ -80,12 +93,13 @@ static void make_check_request(void)
                                            call.space.reserved_start, call.space.reserved_size);
 }
 
-enum { BIND, BIND_RECORD, LOOKUP, CHECK_REQUEST, CALLS };
+enum { BIND, BIND_RECORD, BIND_BATCH, LOOKUP, CHECK_REQUEST, CALLS };
 static const struct {
     const char *name;
     void (*make)(void);
 } calls[CALLS] = {{"bind", make_bind},
                   {"bind_record", make_bind_record},
+                  {"bind_batch", make_bind_batch},
                   {"lookup", make_lookup},
                   {"check_request", make_check_request}};
 
@@ -124,7 +138,7 @@ static void fill_table(size_t room, size_t count)
     memcpy(table, mappings, room * sizeof *mappings);
     call.space = (waylluqen_space){0, 4 * (room + 1) * PAGE, 0, 0};
     call.table_words = room * MAPPING_WORDS;
-    call.list_words = WAYLLUQEN_OPERATION_LIST_WORDS(room);
+    call.list_words = WAYLLUQEN_BATCH_LIST_WORDS(room, REQUESTS);
     call.count = count;
     call.range_words = call.range_count = 0;
 }
@@ -256,8 +270,18 @@ static void break_table(enum fault fault, size_t place)
     }
 }
 
+/* Asks for it by a record and by a batch, whose last record may be one that is refused. */
+static void put_records(const struct record *fields, int is_last_bad)
+{
+    const struct record bad = {.op = 2};
+    encode(call.record, fields);
+    for (size_t i = 0; i < REQUESTS; i++) {
+        encode(call.records + i * RECORD_BYTES, is_last_bad && i + 1 == REQUESTS ? &bad : fields);
+    }
+}
+
 /* Lends what a case needs, with room for so many mappings, and asks for it in every form. */
-static void lend_case(const struct test_case *test, size_t room)
+static void lend_case(const struct test_case *test, size_t room, int is_last_bad)
 {
     size_t places[] = {0, room / 2, room - 1, 0};
     size_t place = places[test->where];
@@ -273,7 +297,7 @@ static void lend_case(const struct test_case *test, size_t room)
     break_table(test->fault, place);
     call.request = (waylluqen_request){fields.op, fields.address, fields.size, fields.object, 0};
     call.address = fields.address;
-    encode(call.record, &fields);
+    put_records(&fields, is_last_bad);
 }
 
 /* Lends a list of so many ranges behind a page, and room for 64. */
@@ -291,7 +315,7 @@ static void fill_list(const struct sparse_case *test, uint64_t page)
 }
 
 /* The same for a case with the sparse flag, on a full table. By numbers it is an unmap, since there is no flag. */
-static void lend_sparse(const struct sparse_case *test, size_t room)
+static void lend_sparse(const struct sparse_case *test, size_t room, int is_last_bad)
 {
     uint64_t page = test->where == OVER_MAPPINGS ? 0 : 4 * (room + 1);
     struct record fields = {.op = (uint32_t)test->op,
@@ -304,48 +328,50 @@ static void lend_sparse(const struct sparse_case *test, size_t room)
     call.space.size += 4 * MOST_RANGES * PAGE;
     call.request = (waylluqen_request){WAYLLUQEN_OP_UNMAP, 4 * (room + 1) * PAGE, PAGE, 0, 0};
     call.address = fields.address;
-    encode(call.record, &fields);
+    put_records(&fields, is_last_bad);
 }
 
-/* What the case's refusal is to each of the calls. */
-static uint64_t refusal_of(const struct test_case *test, int which)
+/* What the case's refusal is to each of the calls. Once granted, a batch's request is granted again and again. */
+static uint64_t refusal_of(const struct test_case *test, int which, int is_last_bad)
 {
     int is_request = test->refusal == 6 || test->refusal == 7;
     int is_table = test->fault != NO_FAULT;
-    int is_told = which == BIND || which == BIND_RECORD || (which == LOOKUP ? is_table : is_request);
-    return is_told ? test->refusal : 0;
+    int is_told = which == LOOKUP ? is_table : which != CHECK_REQUEST || is_request;
+    uint64_t granted = which == BIND_BATCH && is_last_bad ? 13 : 0;
+    return is_told && test->refusal != 0 ? test->refusal : granted;
 }
 
-/* Only the record has the flag, and only where there is a list is there 18. */
+/* Only the record has the flag, and only where there is a list is there 18. A batch takes no flag. */
 static uint64_t sparse_refusal_of(const struct sparse_case *test, int which)
 {
     int is_told = which == BIND_RECORD || (which != CHECK_REQUEST && test->refusal == 18);
-    return is_told ? test->refusal : 0;
+    return is_told ? test->refusal : which == BIND_BATCH ? 14 : 0;
 }
 
 #define CASES (sizeof cases / sizeof cases[0])
 #define SPARSE_CASES (sizeof sparse_cases / sizeof sparse_cases[0])
 
 /* Lends what a case needs, one without the sparse flag or one with it; answers the refusal that a call gives. */
-static uint64_t lend_any(size_t i, int which, size_t room)
+static uint64_t lend_any(size_t i, int which, size_t room, int is_last_bad)
 {
     if (i < CASES) {
-        lend_case(&cases[i], room);
-        return refusal_of(&cases[i], which);
+        lend_case(&cases[i], room, is_last_bad);
+        return refusal_of(&cases[i], which, is_last_bad);
     }
-    lend_sparse(&sparse_cases[i - CASES], room);
+    lend_sparse(&sparse_cases[i - CASES], room, is_last_bad);
     return sparse_refusal_of(&sparse_cases[i - CASES], which);
 }
 
-/* The most that a call takes with room for so many mappings. Painted twice: what is written may look like paint. */
+/* The most that a call takes with room for so many mappings. Painted twice: what is written may look like paint. A
+ * batch is granted and refused in its turn. */
 static size_t most_of(int which, size_t room)
 {
     static const uint8_t paints[] = {0xa5, 0x5a};
     size_t most = 0;
     for (size_t i = 0; i < CASES + SPARSE_CASES; i++) {
-        for (size_t j = 0; j < sizeof paints; j++) {
-            uint64_t refusal = lend_any(i, which, room);
-            size_t bytes = painted(calls[which].make, paints[j]);
+        for (size_t j = 0; j < 2 * sizeof paints; j++) {
+            uint64_t refusal = lend_any(i, which, room, j / 2 != 0);
+            size_t bytes = painted(calls[which].make, paints[j % 2]);
             if (call.refusal != refusal) {
                 fail(calls[which].name, "another answer than expected, to case", i);
             }
@@ -382,8 +408,9 @@ static void check_measure(void)
     call.bind = waylluqen_bind;
 }
 
-#define ROOMS 3
-static const size_t rooms[ROOMS] = {1, 512, MOST_MAPPINGS};
+/* Where there is room for one mapping alone, none has to be cleared by memset. */
+#define ROOMS 4
+static const size_t rooms[ROOMS] = {1, 2, 512, MOST_MAPPINGS};
 
 static void print_most(size_t room, const size_t most[CALLS])
 {
@@ -401,7 +428,7 @@ static void check_most(size_t most[ROOMS][CALLS])
             if (most[i][which] >= TOO_MUCH) {
                 fail(calls[which].name, "is to take less than a kilobyte of stack, and takes", most[i][which]);
             }
-            if (i > 0 && most[i][which] > most[i - 1][which]) {
+            if (rooms[i] > 2 && most[i][which] > most[i - 1][which]) {
                 fail(calls[which].name, "takes more stack where there is more room:", most[i][which]);
             }
         }

@@ -21,13 +21,16 @@ extern "C" {
  * ranges, in memory that the caller lends. waylluqen_bind() and waylluqen_bind_record() map or
  * unmap a range: they cut what is mapped there out of the table, and write the operations that a
  * driver carries out on its page tables. waylluqen_bind_record() also adds a sparse range or
- * removes one. waylluqen_lookup() tells what an address shows, and how far that goes on.
- * waylluqen_check_request() tells beforehand what is wrong with a request. All that is kept between
- * two calls is the caller's: a space, the words of list and table, and their counts.
+ * removes one. waylluqen_bind_batch() does an array of requests, all or none. waylluqen_lookup()
+ * tells what an address shows, and how far that goes on. waylluqen_check_request() tells beforehand
+ * what is wrong with a request. All that is kept between two calls is the caller's: a space, the
+ * words of list and table, and their counts.
  *
  * Any list, any table, any request and any numbers get an answer, and it is proved to be the one
  * that is written here: &waylluqen_answer.refusal is %WAYLLUQEN_OK, or the first rule that is
- * broken, and then no lent word has changed.
+ * broken, and then no lent word has changed. There is one exception: a batch of which a request is
+ * refused leaves list and table alone too, but zeros in the words that are lent to work in and for
+ * operations.
  *
  * Sums are exact, none wraps. Ranges are half-open: two that only touch share no byte.
  */
@@ -59,10 +62,11 @@ extern "C" {
  *
  * - A pointer is valid for as many words or bytes as its length says, for reading, and where it
  *   is not const for writing. It is not NULL, also where the length is 0.
- * - A pointer to words is aligned as a uint64_t is. A record may stand at any byte.
+ * - A pointer to words is aligned as a uint64_t is. A record may stand at any byte, and so may an
+ *   array of them.
  * - What is lent for writing overlaps nothing else that is lent in the same call: the list of
- *   sparse ranges, the table, the operation words and the record are four places. No words and no
- *   bytes are no place.
+ *   sparse ranges, the table, the work table, the operation words and the record or the array of
+ *   them are five places. No words and no bytes are no place.
  * - Nobody else writes to lent memory during a call, or reads what the call writes: no other
  *   thread, no interrupt, no device. Look-ups in one table and one list may run beside each other,
  *   but not beside a bind on them. There are no locks in here.
@@ -82,15 +86,17 @@ extern "C" {
  * A page is %WAYLLUQEN_PAGE_SIZE bytes. Neither a space nor a mapping's part of its object goes
  * above %WAYLLUQEN_LIMIT. An object is a number from 1 to %WAYLLUQEN_MAX_OBJECT. A table has
  * room for 1 to %WAYLLUQEN_MAX_MAPPINGS mappings, a list of sparse ranges for 0 to
- * %WAYLLUQEN_MAX_RANGES of them.
+ * %WAYLLUQEN_MAX_RANGES of them. A batch has 0 to %WAYLLUQEN_MAX_BATCH requests.
  *
- * With room for the most, a table has 131,072 bytes and its list of operations 458,864: neither
- * is for a kernel's stack. A list of sparse ranges has 1,024.
+ * With room for the most, a table has 131,072 bytes, a work table as many, the list of operations
+ * 458,864 and that of the longest batch 487,536: none is for a kernel's stack. A list of sparse
+ * ranges has 1,024, and the longest batch 2,560.
  */
 enum {
     WAYLLUQEN_PAGE_SIZE = 4096,
     WAYLLUQEN_MAX_MAPPINGS = 4096,
-    WAYLLUQEN_MAX_RANGES = 64
+    WAYLLUQEN_MAX_RANGES = 64,
+    WAYLLUQEN_MAX_BATCH = 64
 };
 #define WAYLLUQEN_LIMIT ((uint64_t)1 << 48)
 #define WAYLLUQEN_MAX_OBJECT ((uint64_t)0xffffffff)
@@ -105,8 +111,9 @@ enum {
  * the GPU faults there.
  *
  * A record with %WAYLLUQEN_FLAG_SPARSE adds a range to the list or removes one, and changes nothing
- * else. Every other request maps and unmaps as if there were no list. A range may lie over
- * mappings, which show what they showed, and mappings may come into it and go again.
+ * else. It goes to waylluqen_bind_record(), since a batch takes no flag. Every other request maps
+ * and unmaps as if there were no list. A range may lie over mappings, which show what they showed,
+ * and mappings may come into it and go again.
  *
  * Hardware has a sparse bit in a page entry. No operation tells a driver to set it, so that a
  * driver sees to it by itself:
@@ -144,10 +151,14 @@ enum {
  * @WAYLLUQEN_REFUSED_NO_ROOM: there would be more mappings afterwards than the table has room
  *     for; what the request frees counts as free. For a map with %WAYLLUQEN_FLAG_SPARSE: the list
  *     of sparse ranges is full
- * @WAYLLUQEN_REFUSED_BAD_RECORD_LENGTH: the record is not %WAYLLUQEN_RECORD_BYTES bytes long
+ * @WAYLLUQEN_REFUSED_BAD_RECORD_LENGTH: the record is not %WAYLLUQEN_RECORD_BYTES bytes long; a
+ *     batch's length is not a multiple of that, or above %WAYLLUQEN_MAX_BATCH times that
  * @WAYLLUQEN_REFUSED_BAD_OP: op is neither %WAYLLUQEN_OP_MAP nor %WAYLLUQEN_OP_UNMAP
  * @WAYLLUQEN_REFUSED_BAD_FLAGS: the record's flags are neither 0 nor %WAYLLUQEN_FLAG_SPARSE, or its
- *     pad is not 0
+ *     pad is not 0; in a batch the flags have to be 0
+ * @WAYLLUQEN_REFUSED_BAD_WORK_LENGTH: the work table is not exactly as long as the table
+ * @WAYLLUQEN_REFUSED_SHORT_OUTPUT: for a request of a batch: its operations don't fit the words
+ *     that are left behind those of the requests before it; see WAYLLUQEN_BATCH_LIST_WORDS()
  * @WAYLLUQEN_REFUSED_STALE_WORDS: a word behind the table's last mapping is not 0, as where the
  *     count is too low; see WAYLLUQEN_TABLE_WORDS()
  * @WAYLLUQEN_REFUSED_BAD_RANGES: the list of sparse ranges breaks one of its rules, see
@@ -157,8 +168,9 @@ enum {
  * @WAYLLUQEN_REFUSED_NO_SUCH_RANGE: for an unmap with %WAYLLUQEN_FLAG_SPARSE: no sparse range has
  *     exactly its start and size, or a mapping shares a byte with it
  *
- * Where several apply, a call answers with the first in this order: 12, 13, 14, 1 to 5, 17, 18,
- * then 6 to 10, 19, 20, 11. It leaves out those that it has no use for. 15 and 16 are no refusals.
+ * Where several apply, a call answers with the first in this order: 12, 13, 14, 1 to 3, 15, 4, 5,
+ * 17, 18, then 6 to 10, 19, 20, 11, 16. It leaves out those that it has no use for. In a batch 13
+ * and 14 come in their request's turn, behind 18 and before its 6.
  */
 enum waylluqen_refusal {
     WAYLLUQEN_OK = 0,
@@ -176,6 +188,8 @@ enum waylluqen_refusal {
     WAYLLUQEN_REFUSED_BAD_RECORD_LENGTH = 12,
     WAYLLUQEN_REFUSED_BAD_OP = 13,
     WAYLLUQEN_REFUSED_BAD_FLAGS = 14,
+    WAYLLUQEN_REFUSED_BAD_WORK_LENGTH = 15,
+    WAYLLUQEN_REFUSED_SHORT_OUTPUT = 16,
     WAYLLUQEN_REFUSED_STALE_WORDS = 17,
     WAYLLUQEN_REFUSED_BAD_RANGES = 18,
     WAYLLUQEN_REFUSED_RANGE_OVERLAPS = 19,
@@ -209,6 +223,8 @@ enum waylluqen_refusal {
     X(WAYLLUQEN_REFUSED_BAD_RECORD_LENGTH, "the record is not 40 bytes long") \
     X(WAYLLUQEN_REFUSED_BAD_OP, "the op is neither map nor unmap") \
     X(WAYLLUQEN_REFUSED_BAD_FLAGS, "the flags are not known, or pad is not 0") \
+    X(WAYLLUQEN_REFUSED_BAD_WORK_LENGTH, "the work table is not as long as the table") \
+    X(WAYLLUQEN_REFUSED_SHORT_OUTPUT, "the output is too short for what is to be written") \
     X(WAYLLUQEN_REFUSED_STALE_WORDS, "a word behind the table's last mapping is not 0") \
     X(WAYLLUQEN_REFUSED_BAD_RANGES, "the list of sparse ranges breaks its rules") \
     X(WAYLLUQEN_REFUSED_RANGE_OVERLAPS, "the range shares a byte with a sparse range") \
@@ -226,7 +242,8 @@ enum waylluqen_op {
 
 /**
  * enum waylluqen_flag - what the flags of a record can be, but for 0
- * @WAYLLUQEN_FLAG_SPARSE: a map adds a sparse range, an unmap removes one; object and offset are 0
+ * @WAYLLUQEN_FLAG_SPARSE: a map adds a sparse range, an unmap removes one; object and offset are 0.
+ *     Not in a batch
  */
 enum waylluqen_flag {
     WAYLLUQEN_FLAG_SPARSE = 256
@@ -344,15 +361,29 @@ enum waylluqen_operation_word {
  * WAYLLUQEN_OPERATION_LIST_WORDS() - how many operation words a call is lent at least
  * @capacity: how many mappings the table has room for
  *
- * No request on such a table writes more.
+ * No request on such a table writes more. A batch is lent as many at least, and can need more:
+ * WAYLLUQEN_BATCH_LIST_WORDS().
  */
 #define WAYLLUQEN_OPERATION_LIST_WORDS(capacity) \
     (((size_t)(capacity) + 1) * WAYLLUQEN_OPERATION_WORDS)
 
 /**
+ * WAYLLUQEN_BATCH_LIST_WORDS() - how many operation words are enough for a batch
+ * @capacity: how many mappings the table has room for
+ * @requests: how many requests the batch has, 0 to %WAYLLUQEN_MAX_BATCH
+ *
+ * With so many words no batch of so many requests on such a table is refused for want of operation
+ * words, neither with %WAYLLUQEN_REFUSED_SHORT_OPERATIONS nor with %WAYLLUQEN_REFUSED_SHORT_OUTPUT:
+ * there are no more operations than mappings before the batch and four for each request. With fewer
+ * a batch can be granted too, if its operations fit.
+ */
+#define WAYLLUQEN_BATCH_LIST_WORDS(capacity, requests) \
+    (((size_t)(capacity) + 1 + 4 * (size_t)(requests)) * WAYLLUQEN_OPERATION_WORDS)
+
+/**
  * enum waylluqen_record_byte - the bytes of a request record, each field little-endian
  * @WAYLLUQEN_RECORD_OP: 4 bytes, one of &enum waylluqen_op
- * @WAYLLUQEN_RECORD_FLAGS: 4 bytes, 0 or one of &enum waylluqen_flag
+ * @WAYLLUQEN_RECORD_FLAGS: 4 bytes, 0 or one of &enum waylluqen_flag; 0 in a batch
  * @WAYLLUQEN_RECORD_HANDLE: 4 bytes, the object; 0 for an unmap, and with a flag
  * @WAYLLUQEN_RECORD_PAD: 4 bytes, 0
  * @WAYLLUQEN_RECORD_ADDR: 8 bytes, the first address of the range
@@ -372,6 +403,14 @@ enum waylluqen_record_byte {
     WAYLLUQEN_RECORD_RANGE = 32,
     WAYLLUQEN_RECORD_BYTES = 40
 };
+
+/**
+ * WAYLLUQEN_BATCH_BYTES() - how many bytes a batch has
+ * @requests: how many requests it has, 0 to %WAYLLUQEN_MAX_BATCH
+ *
+ * One record stands right behind the other, as in an array of struct drm_nouveau_vm_bind_op.
+ */
+#define WAYLLUQEN_BATCH_BYTES(requests) ((size_t)(requests) * WAYLLUQEN_RECORD_BYTES)
 
 /**
  * enum waylluqen_shown - what an address shows
@@ -420,10 +459,11 @@ typedef struct waylluqen_request {
 } waylluqen_request;
 
 /**
- * struct waylluqen_answer - the answer to a request
+ * struct waylluqen_answer - the answer to a request, or to a batch of them
  * @refusal: %WAYLLUQEN_OK where it is granted, or why it is not
- * @place: for %WAYLLUQEN_REFUSED_BAD_MAPPING the lowest place, from 0, of a mapping at fault;
- *     else 0
+ * @place: for %WAYLLUQEN_REFUSED_BAD_MAPPING the lowest place, from 0, of a mapping at fault; for a
+ *     refused request of a batch its place in the array, from 0; else 0. The refusal tells which of
+ *     them it is, see waylluqen_bind_batch()
  * @operations: how many operations were written; 0 on a refusal
  * @count: how many mappings the table has now; on a refusal the count that came in
  * @ranges: how many sparse ranges the list has now; on a refusal the count that came in
@@ -567,6 +607,68 @@ waylluqen_answer waylluqen_bind_record(waylluqen_space space, uint64_t *ranges, 
                                        uint64_t count, uint64_t *operations,
                                        size_t operation_words, const uint8_t *record,
                                        size_t record_bytes);
+
+/**
+ * waylluqen_bind_batch() - map and unmap by an array of records, all or none
+ * @space: the space
+ * @ranges: its list of sparse ranges
+ * @range_words: how many words the list has
+ * @range_count: how many ranges the list has
+ * @table: its table
+ * @table_words: how many words the table has
+ * @count: how many mappings the table has
+ * @work: a second table to work in, scratch: it may hold anything before the call
+ * @work_words: how many words that are, exactly @table_words
+ * @operations: where the operations are written to
+ * @operation_words: how many words that are, WAYLLUQEN_OPERATION_LIST_WORDS() of the table's
+ *     capacity or more; WAYLLUQEN_BATCH_LIST_WORDS() are always enough
+ * @records: what is asked for, as a program handed it over: records, one right behind the other;
+ *     see &enum waylluqen_record_byte
+ * @record_bytes: how many bytes that are, WAYLLUQEN_BATCH_BYTES() of 0 to %WAYLLUQEN_MAX_BATCH
+ *     requests
+ *
+ * The requests are asked for in the order of the array, each on the table that the ones before it
+ * leave, and each does what waylluqen_bind_record() does for it with flags 0. Flags are not taken
+ * here: a record with any, also %WAYLLUQEN_FLAG_SPARSE, is refused. The list of sparse ranges is
+ * checked but not written to, and neither are the records.
+ *
+ * If all are granted, the batch is. Each request's operations stand behind those of the one before
+ * it, the first one's at the front of @operations; the words behind the last operation are as they
+ * were. They are carried out in this order. A map operation is the last one of its request, and an
+ * unmap request has keep 0 everywhere, so that each keep 1 belongs to the next map operation behind
+ * it. The table is what the last request leaves, and @work is zeros. With no records, on what is in
+ * order, the batch is granted with no operations.
+ *
+ * There are two kinds of refusals, and the number tells them apart:
+ *
+ * - Of the batch itself: 12, 1 to 3, 15, 4, 5, 17 and 18, tested once, before any request. No lent
+ *   word has changed. &waylluqen_answer.place is 0, but that of 5 is its mapping's.
+ * - Of one of its requests, in its turn: 13, 14, 6 to 11 and 16. &waylluqen_answer.place is the
+ *   request's place in the array, from 0; those before it would have been granted. The batch leaves
+ *   nothing of them: no word of @table has changed, all words of @operations and all of @work are
+ *   zeros, and there is nothing to carry out.
+ *
+ * 16 goes by the operations that a request has, so that an unmap of nothing never gets it.
+ *
+ * A granted batch leaves the same table as its records one by one by waylluqen_bind_record(), and as
+ * shorter batches of them in the same order where all of these are granted.
+ *
+ * Returns: the first of %WAYLLUQEN_REFUSED_BAD_RECORD_LENGTH, %WAYLLUQEN_REFUSED_BAD_SPACE,
+ * %WAYLLUQEN_REFUSED_BAD_TABLE_LENGTH, %WAYLLUQEN_REFUSED_SHORT_OPERATIONS,
+ * %WAYLLUQEN_REFUSED_BAD_WORK_LENGTH, %WAYLLUQEN_REFUSED_BAD_COUNT, %WAYLLUQEN_REFUSED_BAD_MAPPING,
+ * %WAYLLUQEN_REFUSED_STALE_WORDS and %WAYLLUQEN_REFUSED_BAD_RANGES that applies; else, of the first
+ * request that is refused, the first of %WAYLLUQEN_REFUSED_BAD_OP, %WAYLLUQEN_REFUSED_BAD_FLAGS,
+ * %WAYLLUQEN_REFUSED_UNALIGNED, %WAYLLUQEN_REFUSED_OUTSIDE_SPACE, %WAYLLUQEN_REFUSED_RESERVED,
+ * %WAYLLUQEN_REFUSED_BAD_OBJECT, %WAYLLUQEN_REFUSED_BAD_OFFSET, %WAYLLUQEN_REFUSED_NO_ROOM and
+ * %WAYLLUQEN_REFUSED_SHORT_OUTPUT that applies; or %WAYLLUQEN_OK with the number of all operations
+ * and the count to go on with.
+ */
+waylluqen_answer waylluqen_bind_batch(waylluqen_space space, const uint64_t *ranges,
+                                      size_t range_words, uint64_t range_count, uint64_t *table,
+                                      size_t table_words, uint64_t count, uint64_t *work,
+                                      size_t work_words, uint64_t *operations,
+                                      size_t operation_words, const uint8_t *records,
+                                      size_t record_bytes);
 
 /**
  * waylluqen_lookup() - what the byte at an address shows, and how far that goes on

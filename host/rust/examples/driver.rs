@@ -1,8 +1,9 @@
 // SPDX-License-Identifier: MIT
 //! An example driver: it keeps one address space and carries each operation out on a page table,
-//! here an array. Where that fails half-way, it goes back. It also keeps sparse ranges, and sees to
-//! the entries of their pages. host/c/driver.c is the same in C. Both print what host/driver.out
-//! has, and end with 1 if a page entry is not what look-ups say.
+//! here an array. Where that fails half-way, it goes back. It takes requests one by one and in
+//! batches. It also keeps sparse ranges, and sees to the entries of their pages. host/c/driver.c is
+//! the same in C. Both print what host/driver.out has, and end with 1 if a page entry is not what
+//! look-ups say.
 //!
 //! After `rt staticlib waylluqen` at the repository's root, `cargo run --example driver` in
 //! host/rust.
@@ -11,16 +12,16 @@ use std::error::Error;
 use std::fmt;
 use std::ops::Range;
 use std::process::ExitCode;
-use waylluqen::{operation_list_words, range_words, table_words, Mapping, Operation, Operations};
-use waylluqen::{Ranges, Refusal, Request, Rests, Seen, Shown, Space, Table, View};
-use waylluqen::{PAGE_SIZE as PAGE, RECORD_BYTES};
+use waylluqen::{batch_list_words, range_words, table_words, BatchRefusal, Mapping, Operation};
+use waylluqen::{Operations, Ranges, Refusal, Request, Rests, Seen, Shown, Space, Table, View};
+use waylluqen::{MAX_BATCH, PAGE_SIZE as PAGE, RECORD_BYTES};
 
 const START: u64 = 0x10_0000;
 const PAGES: usize = 32;
 const CAPACITY: usize = 8;
 const TABLE_WORDS: usize = table_words(CAPACITY);
 const RANGE_WORDS: usize = range_words(4);
-const LIST_WORDS: usize = operation_list_words(CAPACITY);
+const LIST_WORDS: usize = batch_list_words(CAPACITY, MAX_BATCH);
 const PLENTY: u64 = u64::MAX;
 
 const FRAMEBUFFER: u64 = 1;
@@ -54,12 +55,14 @@ struct FromLookUps {
     look_ups: u64,
 }
 
-/// All that a driver keeps for one address space.
+/// All that a driver keeps for one address space, and scratch for the calls.
 #[derive(Clone, PartialEq)]
 struct AddressSpace {
     bounds: Space,
     table: Stored,
     operations: [u64; LIST_WORDS],
+    /// A batch's.
+    work: [u64; TABLE_WORDS],
     pages: PageTable,
     /// By the last going back.
     went_back: FromLookUps,
@@ -76,9 +79,9 @@ struct Counts {
     sparse: u64,
 }
 
-/// What was asked for, and whether with the sparse flag.
+/// The ranges that were asked for, more than one by a batch, and whether with the sparse flag.
 struct Asked {
-    range: Range<u64>,
+    ranges: Vec<Range<u64>>,
     sparse: bool,
 }
 
@@ -89,6 +92,7 @@ struct NoMemory;
 #[derive(Debug, PartialEq)]
 enum Failure {
     Refused(Refusal),
+    RefusedBatch(BatchRefusal),
     /// Carrying it out failed half-way.
     WentBack,
 }
@@ -99,10 +103,17 @@ impl From<Refusal> for Failure {
     }
 }
 
+impl From<BatchRefusal> for Failure {
+    fn from(refusal: BatchRefusal) -> Failure {
+        Failure::RefusedBatch(refusal)
+    }
+}
+
 impl fmt::Display for Failure {
     fn fmt(&self, f: &mut fmt::Formatter<'_>) -> fmt::Result {
         match self {
             Failure::Refused(refusal) => write!(f, "refused: {refusal}"),
+            Failure::RefusedBatch(refusal) => write!(f, "refused: {refusal}"),
             Failure::WentBack => write!(f, "failed half-way: went back"),
         }
     }
@@ -246,31 +257,38 @@ impl PageTable {
     }
 
     /// Writes what was not kept: the entries in front of, between and behind those that were. A map
-    /// is the last operation of its list, and the others are in ascending order of their addresses.
+    /// is the last operation of its request, and the others are in ascending order of their
+    /// addresses.
     fn map(
         &mut self,
         counts: &mut Counts,
-        list: Operations<'_>,
+        before: Operations<'_>,
         new: Mapping,
     ) -> Result<(), NoMemory> {
         let mut start = new.address;
-        for kept in list.filter_map(kept) {
+        let before = before.take_while(|operation| !matches!(operation, Operation::Map(_)));
+        for kept in before.filter_map(kept) {
             self.write_entries(counts, new, start..kept.start)?;
             start = kept.end;
         }
         self.write_entries(counts, new, start..end_of(new))
     }
 
-    /// Carries out the operations in order.
+    /// Carries out the operations in order. In a batch what was kept since the last map operation
+    /// is the next one's, since an unmap request keeps nothing.
     fn carry_out(
         &mut self,
         counts: &mut Counts,
         table: &Stored,
-        list: Operations<'_>,
+        mut list: Operations<'_>,
     ) -> Result<(), NoMemory> {
-        for operation in list.clone() {
+        let mut before = list.clone();
+        while let Some(operation) = list.next() {
             match operation {
-                Operation::Map(new) => self.map(counts, list.clone(), new)?,
+                Operation::Map(new) => {
+                    self.map(counts, before, new)?;
+                    before = list.clone();
+                }
                 // Its rests show what they showed.
                 Operation::Remap { old, rests, keep } => {
                     self.unmap(counts, table, lost(old, Some(rests)), keep)?;
@@ -314,7 +332,7 @@ impl PageTable {
     ) -> Result<(), NoMemory> {
         let mut counts = Counts::default();
         if asked.sparse {
-            self.write_sparse(&mut counts, table, bounds, asked.range.clone())?;
+            self.write_sparse(&mut counts, table, bounds, asked.ranges[0].clone())?;
         } else {
             self.carry_out(&mut counts, table, list.clone())?;
         }
@@ -355,14 +373,15 @@ impl AddressSpace {
         let mut table = self.table.table();
         let operations = table.bind(self.bounds, request, &mut self.operations)?;
         (self.table.count, self.table.range_count) = (table.count(), table.ranges().count());
+        let range = request.address..request.address + request.size;
         let asked = Asked {
-            range: request.address..request.address + request.size,
+            ranges: vec![range],
             sparse: request.flags == Request::SPARSE,
         };
         let done = self
             .pages
             .finish(&self.table, self.bounds, operations, &asked);
-        done.map_err(|NoMemory| self.go_back(before, asked.range))
+        done.map_err(|NoMemory| self.go_back(before, &asked))
     }
 
     fn bind_record(&mut self, record: &[u8]) -> Result<(), Failure> {
@@ -370,26 +389,47 @@ impl AddressSpace {
         let mut table = self.table.table();
         let operations = table.bind_record(self.bounds, record, &mut self.operations)?;
         (self.table.count, self.table.range_count) = (table.count(), table.ranges().count());
-        // It is granted, so it has all its bytes; these are flags, addr and range.
-        let (flags, address, size) = (get(record, 4, 4), get(record, 16, 8), get(record, 32, 8));
+        // It is granted, so it has all its bytes; these are the flags.
         let asked = Asked {
-            range: address..address + size,
-            sparse: flags == Request::SPARSE,
+            ranges: vec![range_of(record)],
+            sparse: get(record, 4, 4) == Request::SPARSE,
         };
         let done = self
             .pages
             .finish(&self.table, self.bounds, operations, &asked);
-        done.map_err(|NoMemory| self.go_back(before, asked.range))
+        done.map_err(|NoMemory| self.go_back(before, &asked))
+    }
+
+    /// Records in a row, all or none.
+    fn bind_batch(&mut self, records: &[u8]) -> Result<(), Failure> {
+        let before = self.table;
+        let mut table = self.table.table();
+        let (work, list) = (&mut self.work, &mut self.operations);
+        let operations = table.bind_batch_records(self.bounds, records, work, list)?;
+        self.table.count = table.count();
+        let asked = Asked {
+            ranges: records.chunks(RECORD_BYTES).map(range_of).collect(),
+            sparse: false,
+        };
+        let done = self
+            .pages
+            .finish(&self.table, self.bounds, operations, &asked);
+        done.map_err(|NoMemory| self.go_back(before, &asked))
     }
 
     /// Takes back what failed half-way: the table by its copy, and the entries by look-ups in it.
-    /// Only pages of the asked range can have changed; one that was kept gets the entry that it has.
-    /// No memory is needed for what was there before, if the page table gives none back until all
-    /// is carried out. Then a driver flushes the TLB here too.
-    fn go_back(&mut self, before: Stored, asked: Range<u64>) -> Failure {
+    /// Only pages of the asked ranges can have changed; one that was kept gets the entry that it
+    /// has. No memory is needed for what was there before, if the page table gives none back until
+    /// all is carried out. Then a driver flushes the TLB here too.
+    fn go_back(&mut self, before: Stored, asked: &Asked) -> Failure {
         self.table = before;
-        let written = self.write_shown(asked);
-        self.went_back = written.expect("the bind took this table");
+        self.went_back = FromLookUps::default();
+        for range in &asked.ranges {
+            let written = self.write_shown(range.clone());
+            let written = written.expect("the bind took this table");
+            self.went_back.entries += written.entries;
+            self.went_back.look_ups += written.look_ups;
+        }
         Failure::WentBack
     }
 
@@ -472,26 +512,17 @@ fn get(record: &[u8], at: usize, bytes: usize) -> u64 {
     bytes.fold(0, |value, &byte| (value << 8) | u64::from(byte))
 }
 
-/// The 40 bytes, little-endian, with the fields where `enum waylluqen_record_byte` has them.
-fn make_record(request: Request) -> [u8; RECORD_BYTES] {
-    let mut record = [0; RECORD_BYTES];
-    let mut put = |at: usize, bytes: usize, value: u64| {
-        record[at..at + bytes].copy_from_slice(&value.to_le_bytes()[..bytes]);
-    };
-    put(0, 4, request.op);
-    put(4, 4, request.flags);
-    put(8, 4, request.object);
-    put(16, 8, request.address);
-    put(24, 8, request.offset);
-    put(32, 8, request.size);
-    record
+/// What a record asks for: its addr and range.
+fn range_of(record: &[u8]) -> Range<u64> {
+    let (address, size) = (get(record, 16, 8), get(record, 32, 8));
+    address..address + size
 }
 
 /// Requests by records, as programs hand them over in an ioctl: a good one, then hostile ones.
 fn ask_by_record(space: &mut AddressSpace) -> Result<(), Box<dyn Error>> {
     println!("map a part of the ring");
     let ring = Request::map(0x10_2000, 3 * PAGE, RING, 0x1000);
-    space.bind_record(&make_record(ring))?;
+    space.bind_record(&ring.record())?;
     space.compare()?;
 
     let past = Request::map(u64::MAX - PAGE + 1, 2 * PAGE, RING, 0);
@@ -502,11 +533,11 @@ fn ask_by_record(space: &mut AddressSpace) -> Result<(), Box<dyn Error>> {
     let mut with_flags = unmap;
     with_flags.flags = 1;
     for (what, record) in [
-        ("map past 2^64", &make_record(past)[..]),
-        ("map the reservation", &make_record(reserved)),
-        ("unmap an object", &make_record(with_object)),
-        ("unmap with flags", &make_record(with_flags)),
-        ("unmap by 39 bytes", &make_record(unmap)[..39]),
+        ("map past 2^64", &past.record()[..]),
+        ("map the reservation", &reserved.record()),
+        ("unmap an object", &with_object.record()),
+        ("unmap with flags", &with_flags.record()),
+        ("unmap by 39 bytes", &unmap.record()[..39]),
     ] {
         println!("{what}");
         let before = space.clone();
@@ -595,9 +626,62 @@ fn ask_without_memory(space: &mut AddressSpace) -> Result<(), Box<dyn Error>> {
         ("unmap across two", Request::unmap(0x10_4000, 3 * PAGE)),
     ] {
         println!("{what}, at first without memory");
-        fail_half_way(space, |space| space.bind_record(&make_record(request)))?;
+        fail_half_way(space, |space| space.bind_record(&request.record()))?;
     }
     Ok(())
+}
+
+/// An array of requests, as a program hands it over in one ioctl. The last one of the first batch
+/// maps over entries that an earlier one kept; it fails half-way first. Two batches have a request
+/// that is refused.
+fn ask_by_batch(space: &mut AddressSpace) -> Result<(), Box<dyn Error>> {
+    let start_up = [
+        Request::map(0x10_0000, 8 * PAGE, FRAMEBUFFER, 0),
+        Request::map(0x10_2000, 2 * PAGE, TEXTURE, 0x50_0000),
+        Request::map(0x10_2000, 5 * PAGE, TEXTURE, 0x50_0000),
+        Request::unmap(0x10_7000, PAGE),
+        Request::map(0x11_0000, 2 * PAGE, RING, 0),
+        Request::map(0x10_3000, 2 * PAGE, RING, 0),
+    ];
+    let change = [
+        Request::unmap(0x10_0000, 8 * PAGE),
+        Request::map(0x10_0000, 4 * PAGE, TEXTURE, 0),
+        Request::map(0x10_d000, 2 * PAGE, RING, 0),
+    ];
+    let sparse = [
+        Request::unmap(0x10_0000, 8 * PAGE),
+        Request::map_sparse(0x11_2000, 8 * PAGE),
+        Request::map(0x11_2000, 4 * PAGE, TILES, 0),
+    ];
+    let shut_down = [
+        Request::unmap(0x10_0000, 8 * PAGE),
+        Request::unmap(0x11_0000, 2 * PAGE),
+    ];
+    println!("start up in one batch, at first without memory");
+    let records = start_up.map(Request::record).concat();
+    fail_half_way(space, |space| space.bind_batch(&records))?;
+    println!("change all of it, and map the reservation");
+    ask_batch_in_vain(space, &change.map(Request::record).concat())?;
+    println!("reserve a sparse texture in a batch");
+    ask_batch_in_vain(space, &sparse.map(Request::record).concat())?;
+    println!("shut down in one batch, at first without memory");
+    let records = shut_down.map(Request::record).concat();
+    fail_half_way(space, |space| space.bind_batch(&records))
+}
+
+/// Of a refused batch nothing is carried out, and nothing has to be taken back.
+fn ask_batch_in_vain(space: &mut AddressSpace, records: &[u8]) -> Result<(), Box<dyn Error>> {
+    let mut before = space.clone();
+    before.operations.fill(0);
+    before.work.fill(0);
+    let Err(failure) = space.bind_batch(records) else {
+        return Err("a hostile batch was granted".into());
+    };
+    println!("  {failure}");
+    if *space != before {
+        return Err("a refused batch left something".into());
+    }
+    space.compare()
 }
 
 /// A sparse texture: all its addresses are reserved at once, tiles are mapped and unmapped in it,
@@ -668,6 +752,7 @@ fn run() -> Result<(), Box<dyn Error>> {
             range_count: 0,
         },
         operations: [0; LIST_WORDS],
+        work: [0; TABLE_WORDS],
         pages: PageTable {
             entries: [Shown::Nothing; PAGES],
             memory: PLENTY,
@@ -675,6 +760,7 @@ fn run() -> Result<(), Box<dyn Error>> {
         went_back: FromLookUps::default(),
         compared: 0,
     };
+    ask_by_batch(&mut space)?;
     ask(&mut space)?;
     ask_by_record(&mut space)?;
     ask_without_memory(&mut space)?;
