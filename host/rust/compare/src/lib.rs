@@ -3,7 +3,9 @@
 
 #![deny(unsafe_code)]
 
+pub mod batches;
 pub mod calls;
+pub mod courses;
 pub mod library;
 pub mod lists;
 pub mod marks;
