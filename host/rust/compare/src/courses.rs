@@ -1,13 +1,15 @@
 //! Batches for the comparisons: requests near what the ones before them leave, and tables and
 //! slices that are just too short for one of them.
 
-use crate::batches::bytes_of;
-use crate::near::{narrow_record, near_plain_record, record_of};
-use crate::requests::good_record;
-use crate::tables::{Good, Table};
+use crate::batches::{bytes_of, Batch};
+use crate::near::{narrow_record, near_plain_record, near_record, record_of};
+use crate::requests::{disturb_record, good_record};
+use crate::tables::{disturb_table, Good, Table};
+use waylluqen::batch_list_words;
 use waylluqen_model::bind::least_operation_words;
 use waylluqen_model::random::Random;
-use waylluqen_model::{bind_record, List, Record, MOST_MAPPINGS, OPERATION_WORDS};
+use waylluqen_model::{bind_record, List, Record};
+use waylluqen_model::{MOST_MAPPINGS, MOST_REQUESTS, OPERATION_WORDS, RECORD_BYTES};
 
 /// Requests that are granted one after the other where there is room for all that they make.
 pub struct Course {
@@ -174,4 +176,109 @@ impl Course {
 /// The table of these mappings with this room, which is not below their number.
 pub fn table_with_room(good: &Good, room: usize) -> Table {
     good.table(room - good.mappings.len())
+}
+
+/// Room for a course: for all of it, too little for one of its requests, or little more than the
+/// first of them finds.
+pub fn some_room(random: &mut Random, good: &Good, course: &Course) -> usize {
+    let enough = course.most_mappings().max(1);
+    let room = match random.below(8) {
+        0..=2 => course.room_for_some(random).unwrap_or(enough),
+        3 => enough + random.below(4) as usize,
+        4 => good.mappings.len() + random.below(4) as usize,
+        _ => enough,
+    };
+    room.clamp(good.mappings.len().max(1), MOST_MAPPINGS)
+}
+
+/// Operation words for a course: enough for any, just enough, too few for one of its requests, or as
+/// few as there may be.
+pub fn some_words(random: &mut Random, course: &Course, room: usize) -> usize {
+    let least = least_operation_words(room);
+    let needed = course.all_operations() * OPERATION_WORDS;
+    match random.below(8) {
+        0..=2 => course.words_for_some(random, room).unwrap_or(least),
+        3 => least,
+        4 => needed.saturating_sub(1).max(least),
+        5 => batch_list_words(room, course.records.len()),
+        _ => needed.max(least),
+    }
+}
+
+/// How many requests: any number, often the most.
+pub fn some_number(random: &mut Random) -> usize {
+    match random.below(4) {
+        0 => MOST_REQUESTS,
+        1 => random.below(8) as usize,
+        _ => random.below(MOST_REQUESTS as u64 + 1) as usize,
+    }
+}
+
+/// A batch with all that is lent to it.
+#[derive(Clone)]
+pub struct Case {
+    pub table: Table,
+    pub work_words: usize,
+    pub operation_words: usize,
+    pub bytes: Vec<u8>,
+}
+
+impl Case {
+    /// A course on its mappings, of which the table or the operation words may have too little room.
+    pub fn of(random: &mut Random, good: &Good, course: &Course) -> Case {
+        let room = some_room(random, good, course);
+        let table = table_with_room(good, room);
+        Case {
+            work_words: table.words.len(),
+            operation_words: some_words(random, course, room),
+            bytes: course.bytes(),
+            table,
+        }
+    }
+
+    pub fn batch(&self) -> Batch<'_> {
+        Batch {
+            table: &self.table,
+            work_words: self.work_words,
+            operation_words: self.operation_words,
+            records: &self.bytes,
+        }
+    }
+
+    /// Changes what is asked for or what is lent, once or twice.
+    pub fn disturb(&mut self, random: &mut Random, good: &Good) {
+        for _ in 0..1 + random.below(2) {
+            match random.below(10) {
+                0..=2 => disturb_table(random, good, &mut self.table),
+                3 => {
+                    let length = random.below(self.bytes.len() as u64 + 50) as usize;
+                    self.bytes.resize(length, 0);
+                }
+                4 => {
+                    let other = random.pick(&[-4, -1, 1, 4]);
+                    self.work_words = self.work_words.saturating_add_signed(other);
+                }
+                5 => {
+                    let fewer = 1 + random.below(30) as usize;
+                    self.operation_words = self.operation_words.saturating_sub(fewer);
+                }
+                _ => disturb_one(random, good, &mut self.bytes),
+            }
+        }
+    }
+}
+
+/// Changes one of the records.
+pub fn disturb_one(random: &mut Random, good: &Good, bytes: &mut [u8]) {
+    let (records, _) = bytes.as_chunks_mut::<RECORD_BYTES>();
+    if records.is_empty() {
+        return;
+    }
+    let place = random.below(records.len() as u64) as usize;
+    let mut record = match good.mappings.is_empty() {
+        true => good_record(random, &good.space),
+        false => near_record(random, good),
+    };
+    disturb_record(random, &mut record, &good.space);
+    records[place] = record.encode();
 }

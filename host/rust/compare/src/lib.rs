@@ -13,6 +13,7 @@ pub mod memory;
 pub mod near;
 pub mod numbers;
 pub mod paging;
+pub mod pieces;
 pub mod printed;
 pub mod program;
 pub mod requests;

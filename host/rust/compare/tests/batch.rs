@@ -4,20 +4,20 @@
 use waylluqen::batch_list_words;
 use waylluqen_compare::batches::{bytes_of, Batch};
 use waylluqen_compare::calls::{model_answer, Asking, Caller, Way};
-use waylluqen_compare::courses::{table_with_room, Course, Liking};
+use waylluqen_compare::courses::{some_number, some_room, table_with_room};
+use waylluqen_compare::courses::{Case, Course, Liking};
 use waylluqen_compare::library::{Batched, ByNumber, IN_TURN, NUMBERS, OF_BATCHES};
 use waylluqen_compare::lists::{every_list, good_list, mappings_at, List};
-use waylluqen_compare::near::near_record;
 use waylluqen_compare::numbers::space_of;
-use waylluqen_compare::paging::assert_painted;
+use waylluqen_compare::paging::assert_batch;
 use waylluqen_compare::requests::{disturb_record, MAP, UNMAP};
 use waylluqen_compare::tables::{
-    any_table, disturb_table, fill_space, filled, good_table, large_spaces, small_spaces, Good,
-    Table, MANY_MAPPINGS,
+    any_table, fill_space, filled, good_table, large_spaces, small_spaces, Good, Table,
+    MANY_MAPPINGS,
 };
 use waylluqen_model::bind::least_operation_words;
 use waylluqen_model::random::Random;
-use waylluqen_model::{decode, replay, BatchRefused, Grant, Mapping, Pages, Record, Refused};
+use waylluqen_model::{BatchRefused, Grant, Mapping, Record, Refused};
 use waylluqen_model::{MAPPING_WORDS, MOST_MAPPINGS, MOST_REQUESTS, OPERATION_WORDS};
 use waylluqen_model::{PAGE, RECORD_BYTES};
 
@@ -127,106 +127,6 @@ impl Tally {
     }
 }
 
-/// A table for a course: with room for all of it, with too little for one of its requests, or with
-/// little more than it has.
-fn some_room(random: &mut Random, good: &Good, course: &Course) -> usize {
-    let enough = course.most_mappings().max(1);
-    let room = match random.below(8) {
-        0..=2 => course.room_for_some(random).unwrap_or(enough),
-        3 => enough + random.below(4) as usize,
-        4 => good.mappings.len() + random.below(4) as usize,
-        _ => enough,
-    };
-    room.clamp(good.mappings.len().max(1), MOST_MAPPINGS)
-}
-
-/// Operation words for a course: enough for any, just enough, too few for one of its requests, or as
-/// few as there may be.
-fn some_words(random: &mut Random, course: &Course, room: usize) -> usize {
-    let least = least_operation_words(room);
-    let needed = course.all_operations() * OPERATION_WORDS;
-    match random.below(8) {
-        0..=2 => course.words_for_some(random, room).unwrap_or(least),
-        3 => least,
-        4 => needed.saturating_sub(1).max(least),
-        5 => batch_list_words(room, course.records.len()),
-        _ => needed.max(least),
-    }
-}
-
-/// Changes what is asked for or what is lent, once or twice.
-fn disturb(random: &mut Random, good: &Good, case: &mut Case) {
-    for _ in 0..1 + random.below(2) {
-        match random.below(10) {
-            0..=2 => disturb_table(random, good, &mut case.table),
-            3 => {
-                let length = random.below(case.bytes.len() as u64 + 50) as usize;
-                case.bytes.resize(length, 0);
-            }
-            4 => {
-                let other = random.pick(&[-4, -1, 1, 4]);
-                case.work_words = case.work_words.saturating_add_signed(other);
-            }
-            5 => {
-                let fewer = 1 + random.below(30) as usize;
-                case.operation_words = case.operation_words.saturating_sub(fewer);
-            }
-            _ => disturb_one(random, good, &mut case.bytes),
-        }
-    }
-}
-
-/// Changes one of the records.
-fn disturb_one(random: &mut Random, good: &Good, bytes: &mut [u8]) {
-    let (records, _) = bytes.as_chunks_mut::<RECORD_BYTES>();
-    if records.is_empty() {
-        return;
-    }
-    let place = random.below(records.len() as u64) as usize;
-    let mut record = near_record(random, good);
-    disturb_record(random, &mut record, &good.space);
-    records[place] = record.encode();
-}
-
-/// What is lent, and what is asked for.
-struct Case {
-    table: Table,
-    work_words: usize,
-    operation_words: usize,
-    bytes: Vec<u8>,
-}
-
-impl Case {
-    fn of(random: &mut Random, good: &Good, course: &Course) -> Case {
-        let room = some_room(random, good, course);
-        let table = table_with_room(good, room);
-        Case {
-            work_words: table.words.len(),
-            operation_words: some_words(random, course, room),
-            bytes: course.bytes(),
-            table,
-        }
-    }
-
-    fn batch(&self) -> Batch<'_> {
-        Batch {
-            table: &self.table,
-            work_words: self.work_words,
-            operation_words: self.operation_words,
-            records: &self.bytes,
-        }
-    }
-}
-
-/// How many requests: any number, often the most.
-fn some_number(random: &mut Random) -> usize {
-    match random.below(4) {
-        0 => MOST_REQUESTS,
-        1 => random.below(8) as usize,
-        _ => random.below(MOST_REQUESTS as u64 + 1) as usize,
-    }
-}
-
 /// A few mappings in a small space or in any.
 fn some_good(random: &mut Random) -> Good {
     match random.below(3) {
@@ -253,7 +153,7 @@ fn random_batches() {
         for _ in 0..ROUNDS {
             let mut case = Case::of(&mut random, &good, &course);
             if random.once_in(3) {
-                disturb(&mut random, &good, &mut case);
+                case.disturb(&mut random, &good);
             }
             tally.compare(&case.batch()).ok();
         }
@@ -465,20 +365,6 @@ fn beside_shorter_batches() {
     assert!(both >= TABLES / 4 && shorter_alone >= 500);
 }
 
-/// Follows a granted batch page by page: each page shows what the last request that names it asked,
-/// and the operations lead from the old mappings to the new ones.
-fn follow_pages(caller: &Caller, case: &Case, grant: &Grant) {
-    let new = caller.left(case.table.space, grant);
-    let before = case.table.good().mappings;
-    let written = &caller.operations()[..grant.operations.len() * OPERATION_WORDS];
-    assert_eq!(replay(&before, written), Some(new.good().mappings));
-    let mut pages = Pages::new(&case.table.space, &before, &case.table.list.ranges());
-    for record in case.bytes.chunks(RECORD_BYTES) {
-        pages.ask(&decode(record).expect("it was granted"));
-    }
-    assert_painted(&new, &pages);
-}
-
 #[test]
 fn page_by_page() {
     const TABLES: u64 = 10_000;
@@ -492,7 +378,7 @@ fn page_by_page() {
         let course = Course::new(&mut random, &good, number);
         let case = Case::of(&mut random, &good, &course);
         if let Ok(grant) = tally.compare(&case.batch()) {
-            follow_pages(&tally.caller, &case, &grant);
+            assert_batch(&tally.caller, &case.batch(), &grant);
         }
     }
     tally.print("page by page");
@@ -525,7 +411,7 @@ fn check_pair(tally: &mut Tally, table: &Table, pair: [Record; 2]) {
             bytes: bytes_of(&pair),
         };
         if let Ok(grant) = tally.compare(&case.batch()) {
-            follow_pages(&tally.caller, &case, &grant);
+            assert_batch(&tally.caller, &case.batch(), &grant);
         }
         beside_single(tally, &case).ok();
     }
