@@ -153,45 +153,20 @@ fn each_in_turn_first_and_last() {
     }
 }
 
-/// Any flag, and any pad, is 14; also the one that a single request may have.
+/// Any flag, and any pad, is 14; also the one flag with which single requests would be granted here.
 #[test]
 fn no_flag_is_taken() {
     let mut caller = Caller::new(603);
     let table = full_table();
+    let add = Record::sparse(MAP, 4 * PAGE, PAGE);
+    let remove = Record::sparse(UNMAP, 2 * PAGE, PAGE);
     for place in [0, 1, 17, MOST_REQUESTS - 1] {
-        for bit in 0..32 {
-            for op in [MAP, UNMAP] {
-                let sparse = Record::sparse(op, 2 * PAGE, PAGE);
-                let plain = Record {
-                    flags: 0,
-                    ..again()
-                };
-                for bad in [
-                    Record {
-                        flags: SPARSE,
-                        ..plain
-                    },
-                    Record {
-                        flags: 1 << bit,
-                        ..plain
-                    },
-                    Record {
-                        flags: 1 << bit,
-                        ..sparse
-                    },
-                    Record {
-                        flags: SPARSE | 1 << bit,
-                        ..sparse
-                    },
-                    Record {
-                        pad: 1 << bit,
-                        ..plain
-                    },
-                    Record {
-                        pad: 1 << bit,
-                        ..sparse
-                    },
-                ] {
+        for bit in (0..32).map(|bit| 1 << bit) {
+            for record in [again(), nothing(), add, remove] {
+                let others = [bit, SPARSE, SPARSE | bit];
+                let flagged = others.map(|flags| Record { flags, ..record });
+                let padded = Record { pad: bit, ..record };
+                for bad in flagged.into_iter().chain([padded]) {
                     let bytes = bytes_of(&longest(place, bad, None));
                     let answer = compare(&mut caller, &table, 10 * OPERATION_WORDS, &bytes);
                     assert_eq!(answer, in_turn(14, place));

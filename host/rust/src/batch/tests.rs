@@ -114,60 +114,46 @@ fn refused_in_turn(bad: Request, before: usize, refusal: Refusal) {
     assert_eq!(lent, zeros);
 }
 
+/// A request, and its fields in their order.
+const fn numbers([op, flags, address, size, object, offset]: [u64; 6]) -> Request {
+    R {
+        op,
+        flags,
+        address,
+        size,
+        object,
+        offset,
+    }
+}
+
+/// Requests that are refused by themselves too; some have numbers that a record has no room for.
+const BAD: [(Request, Refusal); 12] = [
+    (numbers([2, 0, 0x1_1000, 0x1000, 8, 0]), Refusal::BadOp),
+    (
+        numbers([1 << 32, 0, 0x1_1000, 0x1000, 8, 0]),
+        Refusal::BadOp,
+    ),
+    (
+        numbers([0, 1 << 32, 0x1_1000, 0x1000, 8, 0]),
+        Refusal::BadFlags,
+    ),
+    (R::map(0x1_1000, 0, 8, 0), Refusal::Unaligned),
+    (R::map(0, 0x1000, 8, 0), Refusal::OutsideSpace),
+    (R::map(0x1_8000, 0x1000, 8, 0), Refusal::Reserved),
+    (R::map(0x1_1000, 0x1000, 0, 0), Refusal::BadObject),
+    (R::map(0x1_1000, 0x1000, 1 << 32, 0), Refusal::BadObject),
+    (R::map(0x1_1000, 0x1000, u64::MAX, 0), Refusal::BadObject),
+    (
+        numbers([1, 0, 0x1_1000, 0x1000, 1 << 32, 0]),
+        Refusal::BadObject,
+    ),
+    (R::map(0x1_1000, 0x1000, 8, LIMIT), Refusal::BadOffset),
+    (R::map(0x1_2000, 0x1000, 8, 0), Refusal::NoRoom),
+];
+
 #[test]
 fn a_request_is_refused_as_by_itself() {
-    let map = R::map(0x1_1000, 0x1000, 8, 0);
-    let unmap = R::unmap(0x1_1000, 0x1000);
-    for (bad, refusal) in [
-        (R { op: 2, ..map }, Refusal::BadOp),
-        (R { op: 1 << 32, ..map }, Refusal::BadOp),
-        (
-            R {
-                flags: 1 << 32,
-                ..map
-            },
-            Refusal::BadFlags,
-        ),
-        (R { size: 0, ..map }, Refusal::Unaligned),
-        (R { address: 0, ..map }, Refusal::OutsideSpace),
-        (
-            R {
-                address: 0x1_8000,
-                ..map
-            },
-            Refusal::Reserved,
-        ),
-        (R { object: 0, ..map }, Refusal::BadObject),
-        (
-            R {
-                object: 1 << 32,
-                ..map
-            },
-            Refusal::BadObject,
-        ),
-        (
-            R {
-                object: u64::MAX,
-                ..map
-            },
-            Refusal::BadObject,
-        ),
-        (
-            R {
-                object: 1 << 32,
-                ..unmap
-            },
-            Refusal::BadObject,
-        ),
-        (
-            R {
-                offset: LIMIT,
-                ..map
-            },
-            Refusal::BadOffset,
-        ),
-        (R::map(0x1_2000, 0x1000, 8, 0), Refusal::NoRoom),
-    ] {
+    for (bad, refusal) in BAD {
         let mut single = LENT;
         let mut table = Table::with_count(&mut single.words, single.count);
         let answer = table.bind(SPACE, bad, &mut single.list);
