@@ -350,10 +350,11 @@ impl<'a> Table<'a> {
     /// Maps and unmaps by a whole array of requests, all or none, and gives the operations of all,
     /// which it writes to the lent `list`: each request's behind those of the one before.
     ///
-    /// It takes anything that becomes a record: a [`Request`], or the bytes of a record. Each is
-    /// asked for on what the ones before it left, and does what [`bind`](Table::bind) does for it;
-    /// flags are not taken here, also not the [sparse flag](Request::SPARSE). No requests are
-    /// granted too, with no operations, if all that is lent is in order.
+    /// It takes anything that becomes a record: a [`Request`], or the bytes of a record; those of a
+    /// slice are its `iter().copied()`. Each is asked for on what the ones before it left, and does
+    /// what [`bind`](Table::bind) does for it; flags are not taken here, also not the
+    /// [sparse flag](Request::SPARSE). No requests are granted too, with no operations, if all that is
+    /// lent is in order.
     ///
     /// `work` is a second table to work in, exactly as long as the table: any words, which are 0
     /// after a grant. There are at least [`operation_list_words`](crate::operation_list_words) for

@@ -1,13 +1,14 @@
 //! Batches beside the model: random ones on tables and operation words that are often just too
 //! short, beside the same requests one by one and in shorter batches, and page by page.
 
-use waylluqen::batch_list_words;
+use waylluqen::{batch_list_words, Refusal};
 use waylluqen_compare::batches::{bytes_of, Batch};
 use waylluqen_compare::calls::{model_answer, Asking, Caller, Way};
 use waylluqen_compare::courses::{some_number, some_room, table_with_room};
 use waylluqen_compare::courses::{Case, Course, Liking};
-use waylluqen_compare::library::{Batched, ByNumber, IN_TURN, NUMBERS, OF_BATCHES};
+use waylluqen_compare::library::{self, Batched, ByNumber, IN_TURN, NUMBERS, OF_BATCHES};
 use waylluqen_compare::lists::{every_list, good_list, mappings_at, List};
+use waylluqen_compare::near::{near_plain_record, widen};
 use waylluqen_compare::numbers::space_of;
 use waylluqen_compare::paging::assert_batch;
 use waylluqen_compare::requests::{disturb_record, MAP, UNMAP};
@@ -525,4 +526,33 @@ fn no_batch_wants_for_more_words() {
     assert_eq!(tally.times_in_turn(16), 0);
     assert_eq!(tally.whole.iter().sum::<u64>(), 0);
     assert!(tally.granted.iter().sum::<u64>() >= TABLES / 4);
+}
+
+/// By the types a request may have numbers that a record has no room for: a batch refuses it for what
+/// it is refused for by itself.
+#[test]
+fn numbers_that_no_record_has_room_for() {
+    const INPUTS: u64 = 50_000;
+    let mut random = Random::new(591);
+    let mut refused = ByNumber::default();
+    for _ in 0..INPUTS {
+        let mut table = some_good(&mut random).table(2);
+        let mut request = near_plain_record(&mut random, &table.good()).request();
+        widen(&mut random, &mut request);
+        let words = batch_list_words(table.words.len() / MAPPING_WORDS, 1);
+        let model = model_answer(&table, words, Asking::Numbers(request));
+        let expected = model.as_ref().map(|grant| grant.operations.len());
+        let expected = expected.map_err(|refused| library::refusal(*refused));
+        let (mut work, mut list) = (vec![0; table.words.len()], vec![0; words]);
+        let space = library::space(&table.space);
+        let mut lent = waylluqen::Table::with_count(&mut table.words, table.count);
+        let answer = lent.bind_batch(space, [library::request(&request)], &mut work, &mut list);
+        let answer = answer.map(|operations| operations.len());
+        assert_eq!(answer.map_err(Refusal::from), expected, "{request:x?}");
+        refused[model.map_or_else(|refused| refused.number as usize, |_| 0)] += 1;
+    }
+    assert!(
+        [0, 9, 13].iter().all(|&number| refused[number] >= 1000),
+        "{refused:?}"
+    );
 }
