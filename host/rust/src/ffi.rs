@@ -83,7 +83,7 @@ impl From<Request> for Numbers {
     }
 }
 
-/// The answer to a request: `waylluqen_answer`.
+/// The answer to a request or to a batch: `waylluqen_answer`.
 ///
 /// ```
 /// use waylluqen::{ffi, Request, Space};
@@ -96,9 +96,9 @@ impl From<Request> for Numbers {
 #[repr(C)]
 #[derive(Clone, Copy, Debug, PartialEq, Eq)]
 pub struct Answer {
-    /// The number of the refusal; 0 where the request is granted.
+    /// The number of the refusal; 0 where the request or the batch is granted.
     pub refusal: u64,
-    /// The place of a mapping that is refused, else 0.
+    /// The place of a mapping that is refused, or of a request in a batch, else 0.
     pub place: u64,
     /// How many operations were written; 0 on a refusal.
     pub operations: u64,
@@ -155,6 +155,22 @@ extern "C" {
         operations: *mut u64,
         operation_words: usize,
         record: *const u8,
+        record_bytes: usize,
+    ) -> Answer;
+
+    fn waylluqen_bind_batch(
+        space: Space,
+        ranges: *const u64,
+        range_words: usize,
+        range_count: u64,
+        table: *mut u64,
+        table_words: usize,
+        count: u64,
+        work: *mut u64,
+        work_words: usize,
+        operations: *mut u64,
+        operation_words: usize,
+        records: *const u8,
         record_bytes: usize,
     ) -> Answer;
 }
@@ -296,6 +312,53 @@ pub fn bind_record(
             operations.len(),
             record.as_ptr(),
             record.len(),
+        )
+    }
+}
+
+/// Calls `waylluqen_bind_batch`.
+///
+/// ```
+/// use waylluqen::{ffi, Request, Space};
+///
+/// let (space, mut table, mut work) = (Space::new(0, 0x1_0000), [0; 4], [9; 4]);
+/// let requests = [Request::map(0, 0x1000, 7, 0), Request::unmap(0, 0x1000)];
+/// let records = requests.map(Request::record).concat();
+/// let list = &mut [9; 28];
+/// let answer = ffi::bind_batch(space, &[], 0, &mut table, 0, &mut work, list, &records);
+/// let expected = ffi::Answer { refusal: 0, place: 0, operations: 2, count: 0, ranges: 0 };
+/// assert_eq!((answer, table, work), (expected, [0; 4], [0; 4]));
+/// assert_eq!((list[0], list[14]), (0, 2)); // a map, an unmap
+/// ```
+#[inline]
+#[allow(clippy::too_many_arguments)] // as C has them
+pub fn bind_batch(
+    space: Space,
+    ranges: &[u64],
+    range_count: u64,
+    table: &mut [u64],
+    count: u64,
+    work: &mut [u64],
+    operations: &mut [u64],
+    records: &[u8],
+) -> Answer {
+    // SAFETY: as in `bind_record`, with three exclusive slices too: the table, the words to work in
+    // and those for operations. The list of ranges is only read.
+    unsafe {
+        waylluqen_bind_batch(
+            space,
+            ranges.as_ptr(),
+            ranges.len(),
+            range_count,
+            table.as_mut_ptr(),
+            table.len(),
+            count,
+            work.as_mut_ptr(),
+            work.len(),
+            operations.as_mut_ptr(),
+            operations.len(),
+            records.as_ptr(),
+            records.len(),
         )
     }
 }

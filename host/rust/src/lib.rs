@@ -3,7 +3,8 @@
 //!
 //! A driver lends words for a [`Table`] of mappings and words for a list of operations. To map or
 //! unmap a range it asks [`Table::bind`], which cuts what is mapped there out of the table and
-//! gives the operations to carry out. [`Table::lookup`] tells what an address shows and how far
+//! gives the operations to carry out; [`Table::bind_batch`] does so for a whole array of requests,
+//! all or none. [`Table::lookup`] tells what an address shows and how far
 //! that goes on, and [`Table::runs`] walks a range by it; so does a [`View`], a table by shared
 //! borrow. A table can have sparse ranges beside it, as Vulkan's sparse residency needs them:
 //! [`Ranges`], in words that are lent too. Nothing is asked of the words and the numbers: a table, a
@@ -39,6 +40,7 @@
 #![deny(unsafe_code)]
 #![warn(missing_docs)]
 
+mod batch;
 pub mod ffi;
 mod mapping;
 mod operation;
@@ -51,6 +53,7 @@ mod space;
 mod table;
 mod view;
 
+pub use batch::BatchRefusal;
 pub use mapping::Mapping;
 pub use operation::{Operation, Operations, Rests};
 pub use ranges::{Ranges, SparseRange};
@@ -126,6 +129,24 @@ pub const MAX_MAPPINGS: usize = 4096;
 /// assert_eq!(view.with_ranges(&longer, 0).lookup(space, 0), Err(Refusal::BadRanges));
 /// ```
 pub const MAX_RANGES: usize = 64;
+
+/// A batch has 0 to this many requests.
+///
+/// ```
+/// use waylluqen::{batch_list_words, Refusal, Request, Space, Table, MAX_BATCH, PAGE_SIZE};
+///
+/// let space = Space::new(0, PAGE_SIZE);
+/// let (mut words, mut work) = ([0; 4], [0; 4]);
+/// let mut list = [0; batch_list_words(1, MAX_BATCH)];
+/// let mut table = Table::empty(&mut words);
+/// let requests = [Request::map(0, PAGE_SIZE, 7, 0); MAX_BATCH];
+/// assert!(table.bind_batch(space, requests, &mut work, &mut list).is_ok());
+///
+/// let requests = [Request::map(0, PAGE_SIZE, 7, 0); MAX_BATCH + 1];
+/// let refused = table.bind_batch(space, requests, &mut work, &mut list).unwrap_err();
+/// assert_eq!((refused.request, refused.refusal), (None, Refusal::BadRecordLength));
+/// ```
+pub const MAX_BATCH: usize = 64;
 
 /// A mapping in a table is this many words: address, size, object, offset.
 ///
@@ -209,4 +230,31 @@ pub const fn range_words(capacity: usize) -> usize {
 /// ```
 pub const fn operation_list_words(capacity: usize) -> usize {
     (capacity + 1) * OPERATION_WORDS
+}
+
+/// How many operation words are enough for a batch of so many requests on a table of that
+/// capacity: it is not refused for want of operation words. There are no more operations than
+/// mappings before the batch and four for each request.
+///
+/// With fewer, but [`operation_list_words`] at least, a batch is granted if its operations fit.
+///
+/// ```
+/// use waylluqen::{batch_list_words, operation_list_words, table_words};
+/// use waylluqen::{Refusal, Request, Space, Table};
+///
+/// let space = Space::new(0, 0x1_0000);
+/// let (mut words, mut work) = ([0; table_words(3)], [0; table_words(3)]);
+/// let mut table = Table::empty(&mut words);
+/// let requests = [1, 2, 3, 4, 5].map(|object| Request::map(0x1000, 0x1000, object, 0));
+///
+/// let mut list = [0; operation_list_words(3)];
+/// let refused = table.bind_batch(space, requests, &mut work, &mut list).unwrap_err();
+/// assert_eq!((refused.request, refused.refusal), (Some(2), Refusal::ShortOutput));
+///
+/// let mut list = [0; batch_list_words(3, 5)];
+/// assert_eq!(table.bind_batch(space, requests, &mut work, &mut list)?.len(), 9);
+/// # Ok::<(), waylluqen::BatchRefusal>(())
+/// ```
+pub const fn batch_list_words(capacity: usize, requests: usize) -> usize {
+    (capacity + 1 + 4 * requests) * OPERATION_WORDS
 }

@@ -157,7 +157,8 @@ fn rests(lower: Option<Mapping>, upper: Option<Mapping>) -> Option<Rests> {
 }
 
 /// The operations of a granted request, in the order in which a driver carries them out: one for
-/// each mapping that was hit, ascending, and a map's own at the very end.
+/// each mapping that was hit, ascending, and a map's own at the very end. Those of a batch are its
+/// requests' operations, one request's behind the other's.
 ///
 /// ```
 /// use waylluqen::{operation_list_words, Mapping, Operation, Request, Space, Table};

@@ -2,10 +2,13 @@
 
 use core::fmt;
 
-/// The first rule that a call's table, numbers or record break. No lent word has changed then.
+/// The first rule that a call's table, numbers or record break. No lent word has changed then; but a
+/// batch that is refused for one of its requests leaves zeros to work in and for operations, see
+/// [`BatchRefusal`](crate::BatchRefusal).
 ///
-/// Where several apply, the answer is the first in the order 12, 13, 14, 1 to 5, 17, 18, 6 to 10,
-/// 19, 20, 11 of their [numbers](Refusal::number).
+/// Where several apply, the answer is the first in the order 12, 13, 14, 1 to 3, 15, 4, 5, 17, 18,
+/// 6 to 10, 19, 20, 11, 16 of their [numbers](Refusal::number). In a batch 13 and 14 come in their
+/// request's turn, behind 18 and before its 6.
 ///
 /// ```
 /// use waylluqen::{operation_list_words, Refusal, Request, Space, Table};
@@ -51,13 +54,46 @@ pub enum Refusal {
     /// There would be more mappings afterwards than the table has room for, or more sparse ranges
     /// than their list has room for.
     NoRoom,
-    /// The record is not [`RECORD_BYTES`](crate::RECORD_BYTES) bytes long.
+    /// The record is not [`RECORD_BYTES`](crate::RECORD_BYTES) bytes long. A batch: its length is
+    /// not a multiple of that, or there are more than [`MAX_BATCH`](crate::MAX_BATCH) records.
     BadRecordLength,
     /// The op is neither map nor unmap.
     BadOp,
     /// The flags are neither 0 nor [`Request::SPARSE`](crate::Request::SPARSE), or a record's pad is
-    /// not 0.
+    /// not 0. In a batch the flags have to be 0.
     BadFlags,
+    /// The work table of a batch is not exactly as long as the table.
+    ///
+    /// ```
+    /// use waylluqen::{operation_list_words, Refusal, Request, Space, Table};
+    ///
+    /// let space = Space::new(0, 0x1_0000);
+    /// let (mut words, mut work) = ([0; 4], [0; 8]);
+    /// let mut list = [0; operation_list_words(1)];
+    /// let mut table = Table::empty(&mut words);
+    /// let nothing: [Request; 0] = [];
+    /// let refused = table.bind_batch(space, nothing, &mut work, &mut list).unwrap_err();
+    /// assert_eq!(refused.refusal, Refusal::BadWorkLength);
+    /// assert!(table.bind_batch(space, nothing, &mut work[..4], &mut list).is_ok());
+    /// ```
+    BadWorkLength,
+    /// The operations of a batch's request don't fit the words that are left behind those of the
+    /// requests before it. With [`batch_list_words`](crate::batch_list_words) they do.
+    ///
+    /// ```
+    /// use waylluqen::{operation_list_words, Refusal, Request, Space, Table};
+    ///
+    /// let space = Space::new(0, 0x1_0000);
+    /// let (mut words, mut work) = ([0; 4], [0; 4]);
+    /// let mut list = [0; operation_list_words(1)]; // two operations
+    /// let mut table = Table::empty(&mut words);
+    /// // The first has one operation, the second would have two.
+    /// let requests = [Request::map(0, 0x1000, 7, 0), Request::map(0, 0x1000, 8, 0)];
+    /// let refused = table.bind_batch(space, requests, &mut work, &mut list).unwrap_err();
+    /// assert_eq!((refused.request, refused.refusal), (Some(1), Refusal::ShortOutput));
+    /// assert_eq!(table.count(), 0);
+    /// ```
+    ShortOutput,
     /// A word behind the table's last mapping is not 0.
     ///
     /// So a count that is too low does not pass for a shorter table. Words that a
@@ -138,6 +174,8 @@ impl Refusal {
     ///
     /// assert_eq!(Refusal::NoRoom.number(), 11);
     /// assert_eq!(Refusal::BadMapping { place: 3 }.number(), 5);
+    /// let batch = [Refusal::BadWorkLength, Refusal::ShortOutput];
+    /// assert_eq!(batch.map(Refusal::number), [15, 16]);
     /// let sparse = [Refusal::BadRanges, Refusal::RangeOverlaps, Refusal::NoSuchRange];
     /// assert_eq!(sparse.map(Refusal::number), [18, 19, 20]);
     /// ```
@@ -157,6 +195,8 @@ impl Refusal {
             Refusal::BadRecordLength => 12,
             Refusal::BadOp => 13,
             Refusal::BadFlags => 14,
+            Refusal::BadWorkLength => 15,
+            Refusal::ShortOutput => 16,
             Refusal::StaleWords => 17,
             Refusal::BadRanges => 18,
             Refusal::RangeOverlaps => 19,
@@ -190,6 +230,8 @@ impl Refusal {
             12 => Refusal::BadRecordLength,
             13 => Refusal::BadOp,
             14 => Refusal::BadFlags,
+            15 => Refusal::BadWorkLength,
+            16 => Refusal::ShortOutput,
             17 => Refusal::StaleWords,
             18 => Refusal::BadRanges,
             19 => Refusal::RangeOverlaps,
@@ -218,6 +260,8 @@ impl fmt::Display for Refusal {
             Refusal::BadRecordLength => "the record is not 40 bytes long",
             Refusal::BadOp => "the op is neither map nor unmap",
             Refusal::BadFlags => "the flags are not known, or pad is not 0",
+            Refusal::BadWorkLength => "the work table is not as long as the table",
+            Refusal::ShortOutput => "the output is too short for what is to be written",
             Refusal::StaleWords => "a word behind the table's last mapping is not 0",
             Refusal::BadRanges => "the list of sparse ranges breaks its rules",
             Refusal::RangeOverlaps => "the range shares a byte with a sparse range",

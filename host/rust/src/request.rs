@@ -150,18 +150,52 @@ impl Request {
         }
     }
 
-    /// The request as a record: the same is refused of both. A number that a record has no room for
-    /// becomes the highest that it has room for, which is no better an op, flag or object.
-    pub(crate) fn record(self) -> [u8; RECORD_BYTES] {
+    /// The request as a record, as a program hands it over; see [`check_request`] for its fields.
+    ///
+    /// Op, flags and object have 32 bits in a record. A number that has more becomes one that is
+    /// refused for the same reason, so that the same is refused of both: the highest op or flags
+    /// that there are, and an object that can't be asked for.
+    ///
+    /// ```
+    /// use waylluqen::{check_request, Refusal, Request, Space};
+    ///
+    /// let space = Space::new(0, 0x1_0000);
+    /// let record = Request::map(0x1000, 0x2000, 7, 0x5000).record();
+    /// assert_eq!((record[8], record[17], record[25], record[33]), (7, 0x10, 0x50, 0x20));
+    /// assert_eq!(check_request(space, &record), Ok(()));
+    ///
+    /// let record = Request::map(0x1000, 0x2000, 1 << 32, 0).record();
+    /// assert_eq!(check_request(space, &record), Err(Refusal::BadObject));
+    /// ```
+    pub fn record(self) -> [u8; RECORD_BYTES] {
+        // To map no object is refused, to unmap one, or one of a sparse range.
+        let no_object = match (self.op, self.flags) {
+            (Request::MAP, 0) => 0,
+            _ => u32::MAX,
+        };
+        let short = |number: u64, other: u32| u32::try_from(number).unwrap_or(other).to_le_bytes();
         let mut record = [0; RECORD_BYTES];
-        let short = |number: u64| u32::try_from(number).unwrap_or(u32::MAX).to_le_bytes();
-        record[0..4].copy_from_slice(&short(self.op));
-        record[4..8].copy_from_slice(&short(self.flags));
-        record[8..12].copy_from_slice(&short(self.object));
+        record[0..4].copy_from_slice(&short(self.op, u32::MAX));
+        record[4..8].copy_from_slice(&short(self.flags, u32::MAX));
+        record[8..12].copy_from_slice(&short(self.object, no_object));
         record[16..24].copy_from_slice(&self.address.to_le_bytes());
         record[24..32].copy_from_slice(&self.offset.to_le_bytes());
         record[32..40].copy_from_slice(&self.size.to_le_bytes());
         record
+    }
+}
+
+/// [`Request::record`], by which [`Table::bind_batch`](crate::Table::bind_batch) takes requests.
+///
+/// ```
+/// use waylluqen::{Request, RECORD_BYTES};
+///
+/// let request = Request::map(0x1000, 0x2000, 7, 0x5000);
+/// assert_eq!(<[u8; RECORD_BYTES]>::from(request), request.record());
+/// ```
+impl From<Request> for [u8; RECORD_BYTES] {
+    fn from(request: Request) -> [u8; RECORD_BYTES] {
+        request.record()
     }
 }
 

@@ -1,6 +1,7 @@
 //! A table of mappings in lent words.
 
-use crate::{ffi, Mapping, Operations, Ranges, Refusal, Request, Runs, Seen, Space, View};
+use crate::{ffi, BatchRefusal, Mapping, Operations, Ranges, Refusal, Request, Runs, Seen, Space};
+use crate::{View, MAX_BATCH, RECORD_BYTES};
 use core::ops::Range;
 
 /// The mappings of a space, in lent words, and their count.
@@ -344,6 +345,144 @@ impl<'a> Table<'a> {
             record,
         );
         self.take(answer, list)
+    }
+
+    /// Maps and unmaps by a whole array of requests, all or none, and gives the operations of all,
+    /// which it writes to the lent `list`: each request's behind those of the one before.
+    ///
+    /// It takes anything that becomes a record: a [`Request`], or the bytes of a record; those of a
+    /// slice are its `iter().copied()`. Each is asked for on what the ones before it left, and does
+    /// what [`bind`](Table::bind) does for it; flags are not taken here, also not the
+    /// [sparse flag](Request::SPARSE). No requests are granted too, with no operations, if all that is
+    /// lent is in order.
+    ///
+    /// `work` is a second table to work in, exactly as long as the table: any words, which are 0
+    /// after a grant. There are at least [`operation_list_words`](crate::operation_list_words) for
+    /// `list`, and [`batch_list_words`](crate::batch_list_words) are always enough; the words behind
+    /// the last operation stay. The sparse ranges are checked, and never change.
+    ///
+    /// The records stand on the stack meanwhile, 2,600 bytes. Those that stand in a row anyway are
+    /// taken where they are by [`bind_batch_records`](Table::bind_batch_records).
+    ///
+    /// # Errors
+    ///
+    /// What [`BatchRefusal`] says, and then nothing of the batch is left: no word of the table and of
+    /// the sparse ranges has changed, and the count is what it was. Where a request is refused, which
+    /// it names, all words of `list` and of `work` are 0; where the batch itself is, they are as they
+    /// were.
+    ///
+    /// More than [`MAX_BATCH`] requests are refused with
+    /// [`BadRecordLength`](Refusal::BadRecordLength): it takes one more from the iterator, to know
+    /// that there are too many, and leaves the rest. A request with a number that a record has no
+    /// room for is refused in its turn, for what [`bind`](Table::bind) refuses it for; see
+    /// [`Request::record`].
+    ///
+    /// ```
+    /// use waylluqen::{batch_list_words, table_words, BatchRefusal, Operation, Refusal};
+    /// use waylluqen::{Request, Shown, Space, Table};
+    ///
+    /// const FIRMWARE: u64 = 1;
+    /// const RING: u64 = 2;
+    /// let space = Space::new(0x10_0000, 0x10_0000).reserving(0x10_0000, 0x1000);
+    /// let (mut words, mut work) = ([0; table_words(8)], [0; table_words(8)]);
+    /// let mut list = [0; batch_list_words(8, 4)];
+    /// let mut table = Table::empty(&mut words);
+    ///
+    /// // A driver's start-up: all of it, or the device stays off.
+    /// let start_up = [
+    ///     Request::map(0x10_4000, 0x8000, FIRMWARE, 0),
+    ///     Request::unmap(0x10_8000, 0x1000), // a guard page within
+    ///     Request::map(0x11_0000, 0x2000, RING, 0),
+    ///     Request::map(0x11_2000, 0x2000, RING, 0), // once more, for what goes over its end
+    /// ];
+    /// let operations = table.bind_batch(space, start_up, &mut work, &mut list)?;
+    /// assert_eq!(operations.len(), 4);
+    /// for operation in operations {
+    ///     match operation {
+    ///         Operation::Map(new) => assert!(new.object <= RING), // write page entries
+    ///         Operation::Remap { old, .. } => assert_eq!(old.object, FIRMWARE), // the guard page
+    ///         Operation::Unmap { old, keep } => unreachable!("{old:?} {keep}"),
+    ///     }
+    /// }
+    /// assert_eq!(table.count(), 4);
+    ///
+    /// // Of what follows nothing is done: the last is in the reservation.
+    /// let more = [Request::unmap(0x10_4000, 0x8000), Request::map(0x10_0000, 0x1000, 3, 0)];
+    /// let refused = table.bind_batch(space, more, &mut work, &mut list).unwrap_err();
+    /// assert_eq!(refused, BatchRefusal { request: Some(1), refusal: Refusal::Reserved });
+    /// assert_eq!(table.count(), 4);
+    /// let shown = Shown::Object { object: FIRMWARE, offset: 0x5000 };
+    /// assert_eq!(table.lookup(space, 0x10_9000)?.shown, shown);
+    /// assert!(list.iter().chain(&work).all(|&word| word == 0));
+    /// # Ok::<(), Box<dyn std::error::Error>>(())
+    /// ```
+    pub fn bind_batch<'o, R>(
+        &mut self,
+        space: Space,
+        requests: impl IntoIterator<Item = R>,
+        work: &mut [u64],
+        list: &'o mut [u64],
+    ) -> Result<Operations<'o>, BatchRefusal>
+    where
+        R: Into<[u8; RECORD_BYTES]>,
+    {
+        // Room for one too many, which the library refuses.
+        let mut records = [0; (MAX_BATCH + 1) * RECORD_BYTES];
+        let mut bytes = 0;
+        for (record, request) in records.chunks_exact_mut(RECORD_BYTES).zip(requests) {
+            record.copy_from_slice(&request.into());
+            bytes += RECORD_BYTES;
+        }
+        self.bind_batch_records(space, &records[..bytes], work, list)
+    }
+
+    /// Does what [`bind_batch`](Table::bind_batch) does for records in a row, as a program handed
+    /// them over; see [`check_request`](crate::check_request).
+    ///
+    /// # Errors
+    ///
+    /// What [`bind_batch`](Table::bind_batch) gives. Bytes that are not whole records are
+    /// [`BadRecordLength`](Refusal::BadRecordLength) too.
+    ///
+    /// ```
+    /// use waylluqen::{batch_list_words, table_words, BatchRefusal, Refusal, Request, Space, Table};
+    ///
+    /// let space = Space::new(0, 0x1_0000);
+    /// let (mut words, mut work) = ([0; table_words(4)], [0; table_words(4)]);
+    /// let mut list = [0; batch_list_words(4, 3)];
+    /// let mut table = Table::empty(&mut words);
+    /// let requests = [0, 0x1000, 0x2000].map(|address| Request::map(address, 0x1000, 7, address));
+    /// let bytes = requests.map(Request::record).concat();
+    /// let operations = table.bind_batch_records(space, &bytes, &mut work, &mut list)?;
+    /// assert_eq!(operations.len(), 3);
+    ///
+    /// let refused = table.bind_batch_records(space, &bytes[1..], &mut work, &mut list).unwrap_err();
+    /// assert_eq!((refused.request, refused.refusal), (None, Refusal::BadRecordLength));
+    /// assert_eq!(refused.to_string(), "the batch is not 0 to 64 records of 40 bytes");
+    /// # Ok::<(), BatchRefusal>(())
+    /// ```
+    #[inline]
+    pub fn bind_batch_records<'o>(
+        &mut self,
+        space: Space,
+        records: &[u8],
+        work: &mut [u64],
+        list: &'o mut [u64],
+    ) -> Result<Operations<'o>, BatchRefusal> {
+        let (ranges, range_count) = (&*self.ranges.words, self.ranges.count);
+        let answer = ffi::bind_batch(
+            space,
+            ranges,
+            range_count,
+            self.words,
+            self.count,
+            work,
+            list,
+            records,
+        );
+        BatchRefusal::check(answer.refusal, answer.place)?;
+        self.count = answer.count;
+        Ok(Operations::new(list, answer.operations))
     }
 
     /// Takes the counts that an answer gives, and reads the operations that it wrote.

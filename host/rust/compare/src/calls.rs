@@ -27,10 +27,11 @@ pub enum Asking<'a> {
 
 /// The memory that is lent, and the randomness of what lies in it.
 pub struct Caller {
-    random: Random,
-    list: Lent,
-    table: Lent,
-    operations: Lent,
+    pub(crate) random: Random,
+    pub(crate) list: Lent,
+    pub(crate) table: Lent,
+    pub(crate) work: Lent,
+    pub(crate) operations: Lent,
 }
 
 impl Caller {
@@ -39,6 +40,7 @@ impl Caller {
             random: Random::new(seed),
             list: Lent::default(),
             table: Lent::default(),
+            work: Lent::default(),
             operations: Lent::default(),
         }
     }
@@ -159,12 +161,7 @@ impl Caller {
         };
         match (answer, model) {
             (Ok(operations), Ok(grant)) => {
-                same(lent.count(), grant.count)?;
-                same(lent.ranges().count(), grant.ranges.len() as u64)?;
-                let mappings = grant.mappings.iter().copied().map(library::mapping);
-                same_items(lent.mappings(), mappings)?;
-                let ranges = grant.ranges.iter().copied().map(library::range);
-                same_items(lent.ranges().iter(), ranges)?;
+                same_lent(&lent, grant)?;
                 same_operations(operations, &grant.operations)
             }
             (Err(refusal), Err(refused)) => {
@@ -241,7 +238,7 @@ impl Asking<'_> {
 
 /// The table in these words, with the list in those. A list of no word is the one that a table has
 /// by itself.
-fn lent_types<'a>(
+pub(crate) fn lent_types<'a>(
     table: &Table,
     words: &'a mut [u64],
     ranges: &'a mut [u64],
@@ -291,7 +288,7 @@ pub fn lines(words: &[u64], each: usize) -> String {
 }
 
 #[cold]
-fn answer_line(way: Way, answered: Result<(), String>) -> String {
+pub(crate) fn answer_line(way: Way, answered: Result<(), String>) -> String {
     match answered {
         Ok(()) => format!("library, by {way:?}: the answer is right, a word in memory is not"),
         Err(answer) => format!("library, by {way:?}: {answer}"),
@@ -316,7 +313,7 @@ pub fn model_look(table: &Table, address: u64) -> Looked {
 }
 
 /// What was answered, if it is not what was expected.
-fn same<T: PartialEq + Debug>(answer: T, expected: T) -> Result<(), String> {
+pub(crate) fn same<T: PartialEq + Debug>(answer: T, expected: T) -> Result<(), String> {
     if answer == expected {
         return Ok(());
     }
@@ -333,8 +330,21 @@ fn same_items<T: PartialEq + Debug>(
     same(items.next(), None)
 }
 
+/// The counts that a grant leaves, its mappings and its ranges.
+pub(crate) fn same_lent(lent: &waylluqen::Table, grant: &Grant) -> Result<(), String> {
+    same(lent.count(), grant.count)?;
+    same(lent.ranges().count(), grant.ranges.len() as u64)?;
+    let mappings = grant.mappings.iter().copied().map(library::mapping);
+    same_items(lent.mappings(), mappings)?;
+    let ranges = grant.ranges.iter().copied().map(library::range);
+    same_items(lent.ranges().iter(), ranges)
+}
+
 /// The operations one by one, their number at each step, and nothing behind the last.
-fn same_operations(mut operations: Operations, expected: &[Operation]) -> Result<(), String> {
+pub(crate) fn same_operations(
+    mut operations: Operations,
+    expected: &[Operation],
+) -> Result<(), String> {
     for (at, operation) in expected.iter().enumerate() {
         let left = expected.len() - at;
         same(operations.len(), left)?;

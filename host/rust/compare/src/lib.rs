@@ -3,7 +3,9 @@
 
 #![deny(unsafe_code)]
 
+pub mod batches;
 pub mod calls;
+pub mod courses;
 pub mod library;
 pub mod lists;
 pub mod marks;
@@ -11,6 +13,7 @@ pub mod memory;
 pub mod near;
 pub mod numbers;
 pub mod paging;
+pub mod pieces;
 pub mod printed;
 pub mod program;
 pub mod requests;

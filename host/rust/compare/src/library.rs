@@ -1,20 +1,30 @@
 //! The model's spaces, requests and answers as the library has them.
 
 use crate::tables::Table;
-use waylluqen::{ffi, Refusal, Rests};
+use waylluqen::{ffi, BatchRefusal, Refusal, Rests};
 use waylluqen_model::answer;
 use waylluqen_model::bind::KIND_MAP;
-use waylluqen_model::SparseRange;
-use waylluqen_model::{Grant, Mapping, Operation, Refused, Request, Seen, Shown, Space};
+use waylluqen_model::{BatchRefused, Grant, Mapping, Operation, Refused, Request};
+use waylluqen_model::{Seen, Shown, Space, SparseRange};
 
-/// The model's answers to a request and to a look-up.
+/// The model's answers to a request, to a batch and to a look-up.
 pub type Bound = Result<Grant, Refused>;
+pub type Batched = Result<Grant, BatchRefused>;
 pub type Looked = Result<Seen, Refused>;
 
 /// The numbers of all refusals.
-pub const NUMBERS: [u32; 18] = [
+pub const NUMBERS: [u32; 20] = [
+    1, 2, 3, 4, 5, 6, 7, 8, 9, 10, 11, 12, 13, 14, 15, 16, 17, 18, 19, 20,
+];
+
+/// Those of a single request.
+pub const OF_REQUESTS: [u32; 18] = [
     1, 2, 3, 4, 5, 6, 7, 8, 9, 10, 11, 12, 13, 14, 17, 18, 19, 20,
 ];
+
+/// Those of a batch itself, in the order in which they are tested; and those of its requests.
+pub const OF_BATCHES: [u32; 9] = [12, 1, 2, 3, 15, 4, 5, 17, 18];
+pub const IN_TURN: [u32; 9] = [13, 14, 6, 7, 8, 9, 10, 11, 16];
 
 /// Room for a count of each number up to the highest, and of what is not refused.
 pub type ByNumber = [u64; 21];
@@ -71,11 +81,24 @@ pub fn refusal(refused: Refused) -> Refusal {
         answer::BAD_RECORD_LENGTH => Refusal::BadRecordLength,
         answer::BAD_OP => Refusal::BadOp,
         answer::BAD_FLAGS => Refusal::BadFlags,
+        answer::BAD_WORK_LENGTH => Refusal::BadWorkLength,
+        answer::SHORT_OUTPUT => Refusal::ShortOutput,
         answer::STALE_WORDS => Refusal::StaleWords,
         answer::BAD_RANGES => Refusal::BadRanges,
         answer::RANGE_OVERLAPS => Refusal::RangeOverlaps,
         answer::NO_SUCH_RANGE => Refusal::NoSuchRange,
         number => unreachable!("{number} is no refusal"),
+    }
+}
+
+pub fn batch_refusal(refused: BatchRefused) -> BatchRefusal {
+    let request = match refused {
+        BatchRefused::Whole(_) => None,
+        BatchRefused::InTurn(Refused { place, .. }) => Some(place as usize),
+    };
+    BatchRefusal {
+        request,
+        refusal: refusal(refused.refused()),
     }
 }
 
@@ -120,7 +143,16 @@ pub fn checked(number: u32) -> Result<(), Refusal> {
 
 /// The five words in which C has this answer; the table, with its list, is as it was before.
 pub fn bound_words(bound: &Bound, table: &Table) -> ffi::Answer {
-    match bound {
+    answer_words(bound.as_ref().map_err(|refused| *refused), table)
+}
+
+/// The same of a batch.
+pub fn batched_words(batched: &Batched, table: &Table) -> ffi::Answer {
+    answer_words(batched.as_ref().map_err(|refused| refused.refused()), table)
+}
+
+fn answer_words(answer: Result<&Grant, Refused>, table: &Table) -> ffi::Answer {
+    match answer {
         Ok(grant) => ffi::Answer {
             refusal: 0,
             place: 0,
@@ -173,21 +205,21 @@ fn put(words: &mut [u64], new: impl Iterator<Item = u64>) {
 }
 
 /// What a grant makes of a table: its mappings, and zeros behind them.
-pub fn change_table(words: &mut [u64], bound: &Bound) {
+pub fn change_table<E>(words: &mut [u64], bound: &Result<Grant, E>) {
     if let Ok(grant) = bound {
         put(words, grant.mappings.iter().flat_map(Mapping::words));
     }
 }
 
 /// What a grant makes of a list: its ranges, and zeros behind them.
-pub fn change_list(words: &mut [u64], bound: &Bound) {
+pub fn change_list<E>(words: &mut [u64], bound: &Result<Grant, E>) {
     if let Ok(grant) = bound {
         put(words, grant.ranges.iter().flat_map(SparseRange::words));
     }
 }
 
 /// What a grant makes of all that is lent to the next call.
-pub fn change_lent(table: &mut Table, bound: &Bound) {
+pub fn change_lent<E>(table: &mut Table, bound: &Result<Grant, E>) {
     change_table(&mut table.words, bound);
     change_list(&mut table.list.words, bound);
     if let Ok(grant) = bound {
@@ -197,11 +229,26 @@ pub fn change_lent(table: &mut Table, bound: &Bound) {
 }
 
 /// What a grant makes of the operation words: its operations, and behind them what was there.
-pub fn write_operations(words: &mut [u64], bound: &Bound) {
+pub fn write_operations<E>(words: &mut [u64], bound: &Result<Grant, E>) {
     if let Ok(grant) = bound {
         let written = grant.operations.iter().flat_map(Operation::words);
         for (word, new) in words.iter_mut().zip(written) {
             *word = new;
         }
+    }
+}
+
+/// What a batch makes of the operation words: all are zeros where a request is refused.
+pub fn write_batch(words: &mut [u64], batched: &Batched) {
+    match batched {
+        Err(BatchRefused::InTurn(_)) => words.fill(0),
+        _ => write_operations(words, batched),
+    }
+}
+
+/// What a batch makes of the words to work in: zeros, unless it is refused itself.
+pub fn clear_work(words: &mut [u64], batched: &Batched) {
+    if !matches!(batched, Err(BatchRefused::Whole(_))) {
+        words.fill(0);
     }
 }

@@ -1,10 +1,13 @@
 //! What each page of a small space shows, before a request and after it.
 
+use crate::batches::Batch;
+use crate::calls::Caller;
 use crate::library;
 use crate::tables::Table;
 use crate::walk::{moved, Walk};
 use waylluqen::{Seen, Shown};
-use waylluqen_model::{replay, Grant, Pages, Request, OPERATION_WORDS, PAGE};
+use waylluqen_model::{decode, replay, Grant, Pages, Request};
+use waylluqen_model::{OPERATION_WORDS, PAGE, RECORD_BYTES};
 
 /// What each page shows and how far, by look-ups of its first and last byte.
 fn seen_by_lookup(table: &Table) -> Vec<Seen> {
@@ -88,4 +91,20 @@ pub fn assert_pages(old: &Table, new: &Table, request: &Request, grant: &Grant, 
     for operation in &read {
         assert_mark(operation, request, old.space.start, &both);
     }
+}
+
+/// Asserts that a granted batch did page by page what was asked: each page shows what the last
+/// request that names it asked, and any other what it showed before. And its operations, which the
+/// caller has, lead from the old mappings to the new ones.
+pub fn assert_batch(caller: &Caller, batch: &Batch, grant: &Grant) {
+    let old = batch.table;
+    let new = caller.left(old.space, grant);
+    let before = old.good().mappings;
+    let written = &caller.operations()[..grant.operations.len() * OPERATION_WORDS];
+    assert_eq!(replay(&before, written), Some(new.good().mappings));
+    let mut pages = Pages::new(&old.space, &before, &old.list.ranges());
+    for record in batch.records.chunks(RECORD_BYTES) {
+        pages.ask(&decode(record).expect("it was granted"));
+    }
+    assert_painted(&new, &pages);
 }

@@ -1,7 +1,7 @@
 //! Compares the library's map and unmap to the model's, call by call.
 
 use waylluqen_compare::calls::{Asking, Caller};
-use waylluqen_compare::library::{Bound, ByNumber, NUMBERS};
+use waylluqen_compare::library::{Bound, ByNumber, OF_REQUESTS};
 use waylluqen_compare::lists::{every_list, good_list, mappings_at, Faults, List};
 use waylluqen_compare::marks::Marks;
 use waylluqen_compare::near::{disturb, near_record, widen};
@@ -158,7 +158,7 @@ impl Tally {
     /// Every refusal, every kind of grant and every kind of cut came at least `least` times; and with
     /// the flag too each refusal that there is of such a request.
     fn assert_all(&self, least: u64) {
-        for number in NUMBERS {
+        for number in OF_REQUESTS {
             let times = self.refused[number as usize];
             assert!(times >= least, "refusal {number} came only {times} times");
         }

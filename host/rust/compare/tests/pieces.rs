@@ -1,61 +1,28 @@
-//! A request in pieces: asked one by one, in any order and as often as one likes, they end where
-//! the uncut request ends, if each was granted at least once. The list of sparse ranges is lent the
-//! same throughout, and stays so.
+//! A request in pieces: asked one by one or in batches, in any order and as often as one likes, they
+//! end where the uncut request ends, if each was granted at least once. The list of sparse ranges is
+//! lent the same throughout, and stays so.
 
-use waylluqen::{Ranges, Refusal};
+use waylluqen::{BatchRefusal, Ranges, Refusal};
+use waylluqen_compare::batches::{bytes_of, Batch};
 use waylluqen_compare::calls::{model_answer, Asking};
 use waylluqen_compare::library;
 use waylluqen_compare::lists;
 use waylluqen_compare::near::{near_plain_record, widen};
 use waylluqen_compare::numbers::{disturb_space, other64};
+use waylluqen_compare::pieces::{cuts, order, pieces, steps, with_pieces, Asked, Step};
 use waylluqen_compare::requests::disturb_record;
 use waylluqen_compare::tables::{
     any_table, damage, fill_space, good_table, make_stale, small_spaces, Good, Table,
 };
 use waylluqen_model::bind::least_operation_words;
 use waylluqen_model::random::Random;
-use waylluqen_model::{Mapping, Record, Request, SparseRange, MAP, MAPPING_WORDS, PAGE};
+use waylluqen_model::{Record, SparseRange, MAP, MAPPING_WORDS, PAGE};
 
 /// How many operations a request left, or why it was refused.
 type Answer = Result<usize, Refusal>;
 
-/// What is asked for: numbers with flags, and the pad that a record has besides.
-#[derive(Clone, Copy, Debug, PartialEq)]
-struct Asked {
-    request: Request,
-    pad: u32,
-}
-
-impl Asked {
-    /// The record of it, if a record's fields can hold it.
-    fn record(&self) -> Option<Record> {
-        Some(Record {
-            op: self.request.op.try_into().ok()?,
-            flags: self.request.flags.try_into().ok()?,
-            handle: self.request.object.try_into().ok()?,
-            pad: self.pad,
-            addr: self.request.address,
-            bo_offset: self.request.offset,
-            range: self.request.size,
-        })
-    }
-
-    /// The piece `[start, end)`, if 64 bits hold its numbers.
-    fn piece(&self, start: u128, end: u128) -> Option<Asked> {
-        let moved = start - u128::from(self.request.address);
-        let offset = match self.request.op {
-            MAP => u128::from(self.request.offset) + moved,
-            _ => u128::from(self.request.offset),
-        };
-        let request = Request {
-            address: start.try_into().ok()?,
-            size: (end - start).try_into().ok()?,
-            offset: offset.try_into().ok()?,
-            ..self.request
-        };
-        Some(Asked { request, ..*self })
-    }
-}
+/// The same of a batch.
+type BatchAnswer = Result<usize, BatchRefusal>;
 
 /// The words and the count that calls are made on, one after the other.
 struct Series {
@@ -63,6 +30,7 @@ struct Series {
     operations: Vec<u64>,
     by_record: u64,
     by_numbers: u64,
+    batches: u64,
 }
 
 impl Series {
@@ -72,6 +40,7 @@ impl Series {
             operations: vec![0; operation_words],
             by_record: 0,
             by_numbers: 0,
+            batches: 0,
         }
     }
 
@@ -126,95 +95,68 @@ impl Series {
         assert_eq!(answer, expected.map_err(library::refusal), "{asking:x?}");
         answer
     }
-}
 
-/// Where to cut: multiples of a page strictly inside the range, ascending, up to five.
-fn cuts(random: &mut Random, request: &Request) -> Vec<u128> {
-    let (start, end) = (request.extent().start, request.extent().end);
-    let page = u128::from(PAGE);
-    let first = start / page + 1;
-    let behind = end.div_ceil(page);
-    if behind <= first {
-        return Vec::new();
+    /// Asks for pieces in a batch, now and then with a byte too many or too few, or with a work table
+    /// of another length. A refusal must leave the table as it was; that of the batch itself all, that
+    /// of a piece zeros.
+    fn ask_batch(&mut self, random: &mut Random, records: &[Record]) -> BatchAnswer {
+        let mut bytes = bytes_of(records);
+        match random.below(32) {
+            0 => bytes.push(0),
+            1 => bytes.truncate(bytes.len().saturating_sub(1)),
+            _ => {}
+        }
+        let other = random.pick(&[0, 0, 0, 0, 0, 0, 0, 0, 0, 0, 0, 0, 0, 0, -1, 1]);
+        let length = self.table.words.len().saturating_add_signed(other);
+        let mut work: Vec<u64> = (0..length).map(|_| random.next_u64()).collect();
+        self.operations.fill_with(|| random.next_u64());
+        let before = (
+            self.table.words.clone(),
+            work.clone(),
+            self.operations.clone(),
+        );
+        let answer = self.batch_as(&bytes, &mut work);
+        self.batches += 1;
+        match answer {
+            Ok(_) => assert!(work.iter().all(|&word| word == 0)),
+            Err(BatchRefusal { request: None, .. }) => {
+                assert!(before == (self.table.words.clone(), work, self.operations.clone()));
+            }
+            Err(_) => {
+                assert_eq!(before.0, self.table.words);
+                assert!(work.iter().chain(&self.operations).all(|&word| word == 0));
+            }
+        }
+        answer
     }
-    let most = u64::try_from(behind - first - 1).unwrap_or(u64::MAX);
-    let wished = random.below(6);
-    let mut cuts: Vec<u128> = (0..wished)
-        .map(|_| match random.below(2) {
-            0 => random.up_to(most),
-            _ => random.up_to(most.min(12)),
-        })
-        .map(|skipped| (first + u128::from(skipped)) * page)
-        .collect();
-    cuts.sort_unstable();
-    cuts.dedup();
-    cuts
-}
 
-/// The pieces between the cuts, ascending. One that can't be asked is `None`.
-fn pieces(asked: &Asked, cuts: &[u128]) -> Vec<Option<Asked>> {
-    let extent = asked.request.extent();
-    let mut edges = vec![extent.start];
-    edges.extend(cuts);
-    edges.push(extent.end);
-    let piece = |edge: &[u128]| asked.piece(edge[0], edge[1]);
-    edges.windows(2).map(piece).collect()
-}
-
-/// The places of pieces in any order: perhaps one left out, some repeated, perhaps all of them
-/// once more, so that one for which there was no room is tried again.
-fn order(random: &mut Random, pieces: usize) -> Vec<usize> {
-    let mut order: Vec<usize> = (0..pieces).collect();
-    if random.once_in(8) {
-        order.remove(random.below(pieces as u64) as usize);
+    /// Goes on with the count that the library gives, and compares the answer to the model's.
+    fn batch_as(&mut self, bytes: &[u8], work: &mut [u64]) -> BatchAnswer {
+        let batch = Batch {
+            table: &self.table,
+            work_words: work.len(),
+            operation_words: self.operations.len(),
+            records: bytes,
+        };
+        let model = batch.answer();
+        let Table {
+            space,
+            list,
+            words,
+            count,
+        } = &mut self.table;
+        let (space, mut ranges) = (library::space(space), list.words.clone());
+        let ranges = Ranges::with_count(&mut ranges, list.count);
+        let mut table = waylluqen::Table::with_count(words, *count).with_ranges(ranges);
+        let operations = table.bind_batch_records(space, bytes, work, &mut self.operations);
+        let answer = operations.map(|operations| operations.len());
+        *count = table.count();
+        assert_eq!(table.ranges().count(), list.count);
+        assert_eq!(table.ranges().words(), list.words);
+        let expected = model.map(|grant| grant.operations.len());
+        assert_eq!(answer, expected.map_err(library::batch_refusal));
+        answer
     }
-    for _ in 0..random.below(3) {
-        order.push(random.below(pieces as u64) as usize);
-    }
-    shuffle(random, &mut order);
-    if random.once_in(2) {
-        let mut again: Vec<usize> = (0..pieces).collect();
-        shuffle(random, &mut again);
-        order.extend(again);
-    }
-    order
-}
-
-fn shuffle(random: &mut Random, list: &mut [usize]) {
-    for last in (1..list.len()).rev() {
-        list.swap(last, random.below(last as u64 + 1) as usize);
-    }
-}
-
-/// The words after the uncut map, with the pieces in place of its new mapping, zeros behind.
-fn with_pieces(uncut: &Table, asked: &Asked, pieces: &[Asked]) -> Vec<u64> {
-    let used = &uncut.words[..uncut.count as usize * MAPPING_WORDS];
-    let mut mappings: Vec<&[u64]> = used.chunks(MAPPING_WORDS).collect();
-    let new = mapping_words(asked);
-    let place = mappings.iter().position(|words| **words == new);
-    let place = place.expect("a granted map's own mapping is in the table");
-    let pieces: Vec<[u64; 4]> = pieces.iter().map(mapping_words).collect();
-    mappings.splice(place..=place, pieces.iter().map(|words| &words[..]));
-    let mut words = mappings.concat();
-    words.resize(uncut.words.len(), 0);
-    words
-}
-
-fn mapping_words(asked: &Asked) -> [u64; MAPPING_WORDS] {
-    let Request {
-        address,
-        size,
-        object,
-        offset,
-        ..
-    } = asked.request;
-    let mapping = Mapping {
-        address,
-        size,
-        object,
-        offset,
-    };
-    mapping.words()
 }
 
 /// How often each situation came.
@@ -247,47 +189,109 @@ struct Tally {
     mixed: u64,
     /// 64 bits can't hold a number of some piece.
     unaskable: u64,
+    /// Every one of several pieces was granted: some of them in a batch, in batches alone, and after
+    /// a batch that was refused.
+    all_with_batch: u64,
+    all_in_batches: u64,
+    all_after_refused: u64,
+    /// A batch was refused with 11, 16, 12, 15.
+    batch_refused: [u64; 4],
 }
 
 /// What became of a series.
+#[derive(Default)]
 struct Outcome {
     granted: Vec<bool>,
-    /// A piece was refused with 11; one such was granted later.
+    /// A piece was refused with 11, by itself or in a batch; one such was granted later.
     without_room: bool,
     room_later: bool,
+    /// A batch was granted that has several pieces; one was refused with 11, 16, 12, 15.
+    batch_granted: bool,
+    batch_without_room: bool,
+    short: bool,
+    batch_refused: [bool; 2],
     other_refusal: Option<Refusal>,
+}
+
+/// The pieces, and what became of them.
+struct Asker<'a> {
+    pieces: &'a [Option<Asked>],
+    had_no_room: Vec<bool>,
+    outcome: Outcome,
+}
+
+impl Asker<'_> {
+    fn new(pieces: &[Option<Asked>]) -> Asker<'_> {
+        Asker {
+            pieces,
+            had_no_room: vec![false; pieces.len()],
+            outcome: Outcome {
+                granted: vec![false; pieces.len()],
+                ..Outcome::default()
+            },
+        }
+    }
+
+    fn grant(&mut self, place: usize) {
+        self.outcome.granted[place] = true;
+        self.outcome.room_later |= self.had_no_room[place];
+    }
+
+    fn ask(&mut self, random: &mut Random, series: &mut Series, place: usize) {
+        let Some(piece) = &self.pieces[place] else {
+            return;
+        };
+        match series.ask(random, piece) {
+            Ok(_) => self.grant(place),
+            Err(Refusal::NoRoom) => {
+                self.had_no_room[place] = true;
+                self.outcome.without_room = true;
+            }
+            Err(refusal) => self.outcome.other_refusal = Some(refusal),
+        }
+    }
+
+    /// None of the pieces in a batch that is refused counts as granted.
+    fn ask_batch(&mut self, random: &mut Random, series: &mut Series, places: &[usize]) {
+        let record = |&place: &usize| Some((place, self.pieces[place]?.record()?));
+        let asked: Vec<(usize, Record)> = places.iter().filter_map(record).collect();
+        let records: Vec<Record> = asked.iter().map(|(_, record)| *record).collect();
+        let refused = match series.ask_batch(random, &records) {
+            Ok(_) => {
+                asked.iter().for_each(|&(place, _)| self.grant(place));
+                self.outcome.batch_granted |= asked.len() > 1;
+                return;
+            }
+            Err(refused) => refused,
+        };
+        match (refused.refusal, refused.request) {
+            (Refusal::NoRoom, Some(at)) => {
+                self.had_no_room[asked[at].0] = true;
+                self.outcome.without_room = true;
+                self.outcome.batch_without_room = true;
+            }
+            (Refusal::ShortOutput, Some(_)) => self.outcome.short = true,
+            (Refusal::BadRecordLength, None) => self.outcome.batch_refused[0] = true,
+            (Refusal::BadWorkLength, None) => self.outcome.batch_refused[1] = true,
+            (refusal, _) => self.outcome.other_refusal = Some(refusal),
+        }
+    }
 }
 
 fn ask_pieces(
     random: &mut Random,
     series: &mut Series,
     pieces: &[Option<Asked>],
-    order: &[usize],
+    steps: &[Step],
 ) -> Outcome {
-    let mut outcome = Outcome {
-        granted: vec![false; pieces.len()],
-        without_room: false,
-        room_later: false,
-        other_refusal: None,
-    };
-    let mut had_no_room = vec![false; pieces.len()];
-    for &place in order {
-        let Some(piece) = &pieces[place] else {
-            continue;
-        };
-        match series.ask(random, piece) {
-            Ok(_) => {
-                outcome.granted[place] = true;
-                outcome.room_later |= had_no_room[place];
-            }
-            Err(Refusal::NoRoom) => {
-                had_no_room[place] = true;
-                outcome.without_room = true;
-            }
-            Err(refusal) => outcome.other_refusal = Some(refusal),
+    let mut asker = Asker::new(pieces);
+    for step in steps {
+        match step {
+            Step::Single(place) => asker.ask(random, series, *place),
+            Step::Batch(places) => asker.ask_batch(random, series, places),
         }
     }
-    outcome
+    asker.outcome
 }
 
 /// The claim, for one start, one request, one cut and one series.
@@ -300,8 +304,9 @@ fn check(random: &mut Random, tally: &mut Tally, start: &Table, asked: &Asked) {
     let cuts = cuts(random, &asked.request);
     let pieces = pieces(asked, &cuts);
     let order = order(random, pieces.len());
+    let steps = steps(random, &order);
     let mut series = Series::start(start, least + spare);
-    let outcome = ask_pieces(random, &mut series, &pieces, &order);
+    let outcome = ask_pieces(random, &mut series, &pieces, &steps);
     tally.unaskable += u64::from(pieces.contains(&None));
 
     if uncut_answer.is_ok() {
@@ -317,7 +322,8 @@ fn check(random: &mut Random, tally: &mut Tally, start: &Table, asked: &Asked) {
         tally.in_sparse += u64::from(in_sparse);
     }
     tally.note(asked, uncut_answer, &outcome, order.len());
-    tally.calls += series.by_record + series.by_numbers;
+    tally.note_batches(&outcome, &series);
+    tally.calls += series.by_record + series.by_numbers + series.batches;
     tally.mixed += u64::from(series.by_record > 0 && series.by_numbers > 0);
 }
 
@@ -336,13 +342,28 @@ fn assert_same_end(asked: &Asked, pieces: &[Option<Asked>], uncut: Series, serie
 }
 
 impl Tally {
+    fn note_batches(&mut self, outcome: &Outcome, series: &Series) {
+        let [bytes, work] = outcome.batch_refused;
+        let refused = [outcome.batch_without_room, outcome.short, bytes, work];
+        for (times, refused) in self.batch_refused.iter_mut().zip(refused) {
+            *times += u64::from(refused);
+        }
+        let several = outcome.granted.len() > 1;
+        if several && outcome.granted.iter().all(|&granted| granted) && series.batches > 0 {
+            let single = series.by_record + series.by_numbers;
+            self.all_with_batch += u64::from(outcome.batch_granted && single > 0);
+            self.all_in_batches += u64::from(single == 0);
+            self.all_after_refused += u64::from(refused.contains(&true));
+        }
+    }
+
     /// Where the table or the list as they are lent are refused, they are for each piece.
     fn note_lent(&mut self, uncut: Answer, outcome: &Outcome) {
         let Err(lent @ (Refusal::StaleWords | Refusal::BadRanges)) = uncut else {
             return;
         };
         let is_same = |refusal: Refusal| refusal == lent;
-        let granted = outcome.granted.contains(&true) || outcome.without_room;
+        let granted = outcome.granted.contains(&true) || outcome.without_room || outcome.short;
         assert!(!granted && outcome.other_refusal.is_none_or(is_same));
         let times = match lent {
             Refusal::StaleWords => &mut self.stale,
@@ -377,8 +398,9 @@ impl Tally {
     }
 
     /// Each situation with its name.
-    fn situations(&self) -> [(&'static str, u64); 17] {
+    fn situations(&self) -> [(&'static str, u64); 24] {
         let [maps, unmaps] = self.all_granted;
+        let [without_room, short, bytes, work] = self.batch_refused;
         [
             ("all pieces of a map granted", maps),
             ("all pieces of an unmap granted", unmaps),
@@ -397,6 +419,13 @@ impl Tally {
             ("left out", self.left_out),
             ("by numbers and by record", self.mixed),
             ("a piece that can't be asked", self.unaskable),
+            ("all pieces, some in a batch", self.all_with_batch),
+            ("all pieces in batches", self.all_in_batches),
+            ("all pieces after a refused batch", self.all_after_refused),
+            ("no room in a batch", without_room),
+            ("no words left in a batch", short),
+            ("a batch of no whole records", bytes),
+            ("a batch with another work table", work),
         ]
     }
 
@@ -462,7 +491,7 @@ fn some_table(random: &mut Random, good: &Good) -> Table {
 
 #[test]
 fn good_tables_and_those_near_them() {
-    const TABLES: u64 = 100_000;
+    const TABLES: u64 = 200_000;
     const ROUNDS: u64 = 5;
     let mut random = Random::new(201);
     let mut tally = Tally::default();

@@ -3,6 +3,7 @@
 use std::collections::BTreeSet;
 use std::error::Error;
 use waylluqen::{Ranges, Refusal};
+use waylluqen_compare::batches::{bytes_of, Batch};
 use waylluqen_compare::calls::{model_answer, Asking, Caller, Way};
 use waylluqen_compare::library::{self, NUMBERS};
 use waylluqen_compare::lists::List;
@@ -39,7 +40,7 @@ fn without_room() -> Case {
     }
 }
 
-/// What makes it the case of each refusal, in the order of their numbers.
+/// What makes it the case of each refusal of a request, in the order of their numbers.
 const CHANGES: [fn(&mut Case); 18] = [
     |case| case.table.space.size = 1,
     |case| case.table.words.truncate(3),
@@ -86,13 +87,39 @@ fn refusal_of(mut case: Case) -> Refusal {
     refusal
 }
 
+/// The refusal of a batch that asks twice for the mapping that is there, with words for the
+/// operations of one, and so many to work in.
+fn batch_refusal_of(work_words: usize) -> Refusal {
+    let mut table = without_room().table;
+    let records = bytes_of(&[Record::plain(MAP, 7, PAGE, 0, PAGE); 2]);
+    let batch = Batch {
+        table: &table,
+        work_words,
+        operation_words: 28,
+        records: &records,
+    };
+    let model = Caller::new(1).compare_batch(&batch);
+    let refused = model.expect_err("each case is refused");
+    let (space, count) = (library::space(&table.space), table.count);
+    let (mut work, mut list) = (vec![0; work_words], vec![0; 28]);
+    let mut lent = waylluqen::Table::with_count(&mut table.words, count);
+    let answer = lent.bind_batch_records(space, &records, &mut work, &mut list);
+    let refusal = answer.map(|_| ()).expect_err("the same");
+    assert_eq!(refusal, library::batch_refusal(refused));
+    assert_eq!(refusal.refusal.number(), refused.refused().number);
+    refusal.refusal
+}
+
 fn all_refusals() -> Vec<Refusal> {
     let refusal = |change: &fn(&mut Case)| {
         let mut case = without_room();
         change(&mut case);
         refusal_of(case)
     };
-    CHANGES.iter().map(refusal).collect()
+    let mut refusals: Vec<Refusal> = CHANGES.iter().map(refusal).collect();
+    // 15 and 16, which only a batch has.
+    refusals.splice(14..14, [batch_refusal_of(3), batch_refusal_of(4)]);
+    refusals
 }
 
 #[test]

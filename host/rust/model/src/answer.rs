@@ -15,12 +15,15 @@ pub const NO_ROOM: u32 = 11;
 pub const BAD_RECORD_LENGTH: u32 = 12;
 pub const BAD_OP: u32 = 13;
 pub const BAD_FLAGS: u32 = 14;
+pub const BAD_WORK_LENGTH: u32 = 15;
+pub const SHORT_OUTPUT: u32 = 16;
 pub const STALE_WORDS: u32 = 17;
 pub const BAD_RANGES: u32 = 18;
 pub const RANGE_OVERLAPS: u32 = 19;
 pub const NO_SUCH_RANGE: u32 = 20;
 
-/// A refusal: its number, and the place of a mapping that is refused, else 0.
+/// A refusal: its number, and the place of a mapping that is refused, or of a request in a batch,
+/// else 0.
 #[derive(Clone, Copy, Debug, PartialEq, Eq)]
 pub struct Refused {
     pub number: u32,

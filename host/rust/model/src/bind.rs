@@ -105,7 +105,7 @@ fn new_mapping(request: &Request) -> Option<Mapping> {
 
 /// Carries out a request that is not refused for itself: first who is hit, then what comes of it.
 /// The sparse ranges stay.
-fn carry_out(Found { mappings, ranges }: Found, request: &Request) -> Grant {
+pub(crate) fn carry_out(Found { mappings, ranges }: Found, request: &Request) -> Grant {
     let range = request.extent();
     let (hit, spared): (Vec<Mapping>, Vec<Mapping>) = mappings
         .iter()

@@ -9,6 +9,7 @@
 extern crate alloc;
 
 pub mod answer;
+pub mod batch;
 pub mod bind;
 pub mod extent;
 pub mod lookup;
@@ -24,6 +25,7 @@ pub mod table;
 pub mod write;
 
 pub use answer::Refused;
+pub use batch::{bind_batch, BatchRefused, MOST_REQUESTS};
 pub use bind::{bind, bind_record, Grant, Operation, OPERATION_WORDS};
 pub use extent::Extent;
 pub use lookup::{lookup, Seen, Shown};

@@ -57,26 +57,34 @@ pub struct Found {
     pub ranges: Vec<SparseRange>,
 }
 
-/// The first reason not to look at what a call was lent; else what is there. A call that writes
-/// operations was lent words for them.
-pub fn check_lent(
+/// The first reason in the space and in the lengths not to look at what a call was lent. A call
+/// that writes operations was lent words for them.
+pub fn check_lengths(
     space: &Space,
-    list: &List,
     table: &[u64],
-    count: u64,
     operation_words: Option<usize>,
-) -> Result<Found, Refused> {
+) -> Result<(), Refused> {
     if !space_holds(space) {
         return Err(Refused::of(answer::BAD_SPACE));
     }
     if !length_holds(table.len()) {
         return Err(Refused::of(answer::BAD_TABLE_LENGTH));
     }
-    let capacity = capacity(table);
-    if operation_words.is_some_and(|words| words < least_operation_words(capacity)) {
+    let least = least_operation_words(capacity(table));
+    if operation_words.is_some_and(|words| words < least) {
         return Err(Refused::of(answer::SHORT_OPERATIONS));
     }
-    if count > capacity as u64 {
+    Ok(())
+}
+
+/// The first rule that a table or a list of good lengths breaks; else what is there.
+pub fn check_contents(
+    space: &Space,
+    list: &List,
+    table: &[u64],
+    count: u64,
+) -> Result<Found, Refused> {
+    if count > capacity(table) as u64 {
         return Err(Refused::of(answer::BAD_COUNT));
     }
     let count = count as usize;
@@ -92,4 +100,16 @@ pub fn check_lent(
     let ranges = ranges_of(list, space).ok_or(Refused::of(answer::BAD_RANGES))?;
     let mappings = (0..count).map(|place| mapping_at(table, place)).collect();
     Ok(Found { mappings, ranges })
+}
+
+/// The first reason not to look at what a call was lent; else what is there.
+pub fn check_lent(
+    space: &Space,
+    list: &List,
+    table: &[u64],
+    count: u64,
+    operation_words: Option<usize>,
+) -> Result<Found, Refused> {
+    check_lengths(space, table, operation_words)?;
+    check_contents(space, list, table, count)
 }

@@ -11,7 +11,7 @@ use std::time::Duration;
 use waylluqen::ffi;
 use waylluqen_compare::calls::{describe, lines};
 use waylluqen_compare::library;
-use waylluqen_model::{MAPPING_WORDS, OPERATION_WORDS, RANGE_WORDS};
+use waylluqen_model::{MAPPING_WORDS, OPERATION_WORDS, RANGE_WORDS, RECORD_BYTES};
 
 /// Longer than any call takes, also where there is much else to do.
 const PATIENCE: Duration = Duration::from_secs(20);
@@ -122,6 +122,7 @@ fn asked_parts(asked: &Asked) -> (u64, [u64; 5], u64, &[u8]) {
         Asked::Record(record, _) => (1, [0; 5], 0, record),
         Asked::Lookup(address, _) => (2, [0; 5], *address, &[]),
         Asked::Check(record, _) => (3, [0; 5], 0, record),
+        Asked::Batch(records, _) => (4, [0; 5], 0, records),
     }
 }
 
@@ -141,6 +142,7 @@ fn put_call(bytes: &mut Vec<u8>, call: &Call) {
         call.table.list.count,
         call.table.words.len() as u64,
         call.table.count,
+        call.work.len() as u64,
         call.operations.len() as u64,
         record.len() as u64,
     ];
@@ -151,6 +153,7 @@ fn put_call(bytes: &mut Vec<u8>, call: &Call) {
         put_words(bytes, &call.table.list.words);
         put_words(bytes, &call.table.words);
     }
+    put_words(bytes, &call.work);
     put_words(bytes, &call.operations);
     bytes.extend_from_slice(record);
 }
@@ -170,6 +173,7 @@ fn read_outcome(answers: &mut impl Read, call: &Call) -> io::Result<Outcome> {
         answer,
         list: read_words(answers, call.table.list.words.len())?,
         table: read_words(answers, call.table.words.len())?,
+        work: read_words(answers, call.work.len())?,
         operations: read_words(answers, call.operations.len())?,
     })
 }
@@ -188,6 +192,13 @@ fn report(place: usize, call: &Call) -> String {
         Asked::Record(record, bound) => format!("record {record:02x?}\nmodel {bound:x?}"),
         Asked::Lookup(address, looked) => format!("look up {address:#x}\nmodel {looked:x?}"),
         Asked::Check(record, number) => format!("check {record:02x?}\nmodel {number}"),
+        Asked::Batch(records, batched) => {
+            let lines: Vec<String> = records
+                .chunks(RECORD_BYTES)
+                .map(|record| format!("record {record:02x?}"))
+                .collect();
+            format!("{}\nmodel {batched:x?}", lines.join("\n"))
+        }
     };
     let table = describe(&call.table);
     format!("call {place} of the round\n{table}{asked}\n")
@@ -196,10 +207,12 @@ fn report(place: usize, call: &Call) -> String {
 fn left(outcome: &Outcome) -> String {
     format!(
         "library {:x?}\nthe list afterwards:\n{}\nthe table afterwards:\n{}\n\
-         operations, {} words:\n{}",
+         to work in, {} words:\n{}\noperations, {} words:\n{}",
         outcome.answer,
         lines(&outcome.list, RANGE_WORDS),
         lines(&outcome.table, MAPPING_WORDS),
+        outcome.work.len(),
+        lines(&outcome.work, MAPPING_WORDS),
         outcome.operations.len(),
         lines(&outcome.operations, OPERATION_WORDS)
     )

@@ -1,8 +1,10 @@
 //! A call, what is lent to it, and the model's answer.
 
+use waylluqen::ffi;
+use waylluqen_compare::batches::Batch;
 use waylluqen_compare::calls::{check, Asking, Caller, Way};
-use waylluqen_compare::library::{self, Bound, Looked};
-use waylluqen_compare::paging::assert_pages;
+use waylluqen_compare::library::{self, Batched, Bound, Looked};
+use waylluqen_compare::paging::{assert_batch, assert_pages};
 use waylluqen_compare::tables::Table;
 use waylluqen_compare::walk::Walk;
 use waylluqen_model::{Grant, Request, PAGE};
@@ -17,21 +19,26 @@ const WALKED: u64 = 40;
 pub enum Asked {
     Numbers(Request, Bound),
     Record(Vec<u8>, Bound),
+    Batch(Vec<u8>, Batched),
     Lookup(u64, Looked),
     Check(Vec<u8>, u32),
 }
 
 pub struct Call {
     pub table: Table,
-    /// The words that are lent for operations.
+    /// The words that are lent to work in, and for operations.
+    pub work: Vec<u64>,
     pub operations: Vec<u64>,
     pub asked: Asked,
     /// Whether list and table are what the last call left, and are not lent anew.
     pub goes_on: bool,
-    /// Whether table, operations, record and list are lent at the back of their memory: a bit for
-    /// each.
+    /// Whether table, operations, record, list and work table are lent at the back of their memory: a
+    /// bit for each.
     pub at_back: u64,
 }
+
+/// So many places can be at the front or at the back.
+pub const AT_BACK: u64 = 1 << 5;
 
 impl Call {
     /// Makes the call in one of the ways.
@@ -43,6 +50,7 @@ impl Call {
             Asked::Record(record, model) => {
                 self.compare_bind(way, caller, self.asking(way, record), model);
             }
+            Asked::Batch(records, model) => self.compare_batch(way, caller, records, model),
             Asked::Lookup(address, model) => {
                 if !self.goes_on {
                     caller.lend(&self.table);
@@ -77,6 +85,27 @@ impl Call {
         }
     }
 
+    fn compare_batch(&self, way: Way, caller: &mut Caller, records: &[u8], model: &Batched) {
+        if !self.goes_on {
+            caller.lend(&self.table);
+        }
+        caller.lend_work(&self.work);
+        caller.lend_operations(&self.operations);
+        let batch = Batch {
+            table: &self.table,
+            work_words: self.work.len(),
+            operation_words: self.operations.len(),
+            records,
+        };
+        caller.bind_batch(way, &batch, model);
+        if let (Ok(grant), Way::Types) = (model, way) {
+            walk_over(&caller.left(self.table.space, grant));
+            if self.table.space.size <= SMALL_SPACE {
+                assert_batch(caller, &batch, grant);
+            }
+        }
+    }
+
     fn follow_pages(&self, caller: &Caller, asking: Asking, grant: &Grant, new: &Table) {
         if self.table.space.size > SMALL_SPACE {
             return;
@@ -91,22 +120,21 @@ impl Call {
             answer: [0; ANSWER_WORDS],
             list: self.table.list.words.clone(),
             table: self.table.words.clone(),
+            work: self.work.clone(),
             operations: self.operations.clone(),
         };
         match &self.asked {
             Asked::Numbers(_, model) | Asked::Record(_, model) => {
-                let words = library::bound_words(model, &self.table);
-                let first = [
-                    words.refusal,
-                    words.place,
-                    words.operations,
-                    words.count,
-                    words.ranges,
-                ];
-                outcome.answer[..first.len()].copy_from_slice(&first);
+                outcome.answer = first_words(library::bound_words(model, &self.table));
                 library::change_list(&mut outcome.list, model);
                 library::change_table(&mut outcome.table, model);
                 library::write_operations(&mut outcome.operations, model);
+            }
+            Asked::Batch(_, model) => {
+                outcome.answer = first_words(library::batched_words(model, &self.table));
+                library::change_table(&mut outcome.table, model);
+                library::clear_work(&mut outcome.work, model);
+                library::write_batch(&mut outcome.operations, model);
             }
             Asked::Lookup(_, model) => {
                 let words = library::looked_words(*model);
@@ -123,6 +151,18 @@ impl Call {
         }
         outcome
     }
+}
+
+/// The five words of an answer, and a zero.
+fn first_words(words: ffi::Answer) -> [u64; ANSWER_WORDS] {
+    [
+        words.refusal,
+        words.place,
+        words.operations,
+        words.count,
+        words.ranges,
+        0,
+    ]
 }
 
 /// Walks over what a grant left, run by run, and finds its mappings.
@@ -148,5 +188,6 @@ pub struct Outcome {
     pub answer: [u64; ANSWER_WORDS],
     pub list: Vec<u64>,
     pub table: Vec<u64>,
+    pub work: Vec<u64>,
     pub operations: Vec<u64>,
 }

@@ -1,8 +1,9 @@
 //! The calls of a round: tables and requests of all kinds, and a history on one table.
 
-use crate::call::{Asked, Call};
+use crate::call::{Asked, Call, AT_BACK};
 use waylluqen_compare::calls::{model_answer, model_look, Asking};
-use waylluqen_compare::library::{self, Bound};
+use waylluqen_compare::courses::{disturb_one, some_number, some_words, Case, Course};
+use waylluqen_compare::library::{self, Batched, Bound};
 use waylluqen_compare::lists::List;
 use waylluqen_compare::near::{disturb, narrow_record, near_record, near_sparse_record, widen};
 use waylluqen_compare::numbers::{disturb_space, good_space, other64};
@@ -13,12 +14,14 @@ use waylluqen_compare::tables::{
 };
 use waylluqen_model::random::Random;
 use waylluqen_model::{check_request, space_holds};
-use waylluqen_model::{Record, Space, MOST_MAPPINGS, MOST_RANGES, PAGE, RECORD_BYTES};
+use waylluqen_model::{Record, Space};
+use waylluqen_model::{MAPPING_WORDS, MOST_MAPPINGS, MOST_RANGES, PAGE, RECORD_BYTES};
 
 /// Of some kinds more than one in a round, so that a history does not outweigh them.
 const TABLES: u64 = 4;
 const ANY_TABLES: u64 = 2;
 const CHECKS: u64 = 24;
+const BATCHES: u64 = 4;
 
 /// A large table, and a history of one, once in so many rounds: a call takes as long as hundreds on
 /// a small one, and a round's calls are all in memory.
@@ -39,6 +42,9 @@ pub fn calls(random: &mut Random) -> Vec<Call> {
     }
     for _ in 0..CHECKS {
         round.check();
+    }
+    for _ in 0..BATCHES {
+        round.batches();
     }
     if round.random.once_in(LARGE_TABLE) {
         round.large_table();
@@ -71,16 +77,39 @@ impl Round<'_> {
         let asked = self.asked(table, operations.len(), &question);
         let bound = match &asked {
             Asked::Numbers(_, bound) | Asked::Record(_, bound) => Some(bound.clone()),
-            Asked::Lookup(..) | Asked::Check(..) => None,
+            Asked::Batch(..) | Asked::Lookup(..) | Asked::Check(..) => None,
         };
         self.calls.push(Call {
             table: table.clone(),
+            work: Vec::new(),
             operations,
             asked,
             goes_on,
-            at_back: self.random.below(16),
+            at_back: self.random.below(AT_BACK),
         });
         bound
+    }
+
+    /// Adds a batch. Answers what the model does.
+    fn add_batch(&mut self, case: Case, goes_on: bool) -> Batched {
+        let batched = case.batch().answer();
+        let Case {
+            table,
+            work_words,
+            operation_words,
+            bytes,
+        } = case;
+        let mut any = |words: usize| (0..words).map(|_| self.random.next_u64()).collect();
+        let (work, operations) = (any(work_words), any(operation_words));
+        self.calls.push(Call {
+            table,
+            work,
+            operations,
+            asked: Asked::Batch(bytes, batched.clone()),
+            goes_on,
+            at_back: self.random.below(AT_BACK),
+        });
+        batched
     }
 
     fn asked(&mut self, table: &Table, operation_words: usize, question: &Question) -> Asked {
@@ -113,6 +142,39 @@ impl Round<'_> {
         let good = good_table(self.random, largest);
         let table = self.some_table(&good);
         self.near(&good, &table);
+    }
+
+    /// Batches on one table and on those near it: granted, or refused for themselves or in turn.
+    fn batches(&mut self) {
+        let largest = self.random.pick(&[3, 12, 12, 40]);
+        let good = good_table(self.random, largest);
+        let number = some_number(self.random);
+        let course = Course::new(self.random, &good, number);
+        for _ in 0..3 {
+            let mut case = Case::of(self.random, &good, &course);
+            if self.random.once_in(3) {
+                case.disturb(self.random, &good);
+            }
+            self.add_batch(case, false).ok();
+        }
+    }
+
+    /// A batch on the table of a history, with its room.
+    fn batch_on(&mut self, table: &Table, goes_on: bool) -> Batched {
+        let good = table.good();
+        let number = self.random.below(9) as usize;
+        let course = Course::new(self.random, &good, number);
+        let mut bytes = course.bytes();
+        if self.random.once_in(8) {
+            disturb_one(self.random, &good, &mut bytes);
+        }
+        let case = Case {
+            table: table.clone(),
+            work_words: table.words.len(),
+            operation_words: some_words(self.random, &course, table.words.len() / MAPPING_WORDS),
+            bytes,
+        };
+        self.add_batch(case, goes_on)
     }
 
     fn large_table(&mut self) {
@@ -195,14 +257,15 @@ impl Round<'_> {
                 words: Vec::new(),
                 count: 0,
             },
+            work: Vec::new(),
             operations: Vec::new(),
             asked: Asked::Check(bytes, number),
             goes_on: false,
-            at_back: self.random.below(16),
+            at_back: self.random.below(AT_BACK),
         });
     }
 
-    /// Requests on one table, each on what the last one left, and look-ups between.
+    /// Requests and batches on one table, each on what the last one left, and look-ups between.
     fn history(&mut self) {
         let Plan {
             mut table,
@@ -213,6 +276,11 @@ impl Round<'_> {
             false => plan(self.random),
         };
         for step in 0..steps {
+            if self.random.once_in(12) {
+                let batched = self.batch_on(&table, step > 0);
+                library::change_lent(&mut table, &batched);
+                continue;
+            }
             let record = next_record(self.random, &table.good(), narrow);
             let question = match self.random.below(2) {
                 0 if record.flags == 0 => Question::Numbers(record),

@@ -1,14 +1,15 @@
 //! How often each kind of call and each answer came.
 
 use crate::call::{Asked, Call};
-use waylluqen_compare::library::{Bound, ByNumber, Looked, NUMBERS};
+use waylluqen_compare::library::{Batched, Bound, ByNumber, Looked};
+use waylluqen_compare::library::{IN_TURN, NUMBERS, OF_BATCHES};
 use waylluqen_compare::lists::{Faults, RULES};
 use waylluqen_compare::marks::Marks;
 use waylluqen_compare::sights::Sights;
 use waylluqen_compare::tables::{Table, MANY_MAPPINGS};
 use waylluqen_model::answer::{BAD_RANGES, NO_ROOM, NO_SUCH_RANGE, OK, RANGE_OVERLAPS};
 use waylluqen_model::answer::{STALE_WORDS, UNALIGNED};
-use waylluqen_model::{MAPPING_WORDS, MOST_MAPPINGS};
+use waylluqen_model::{BatchRefused, MAPPING_WORDS, MOST_MAPPINGS, RECORD_BYTES};
 
 /// More words than these behind the last mapping are many.
 const MANY_WORDS: usize = 4096;
@@ -20,6 +21,7 @@ pub struct Tally {
     by_record: u64,
     lookups: u64,
     checks: u64,
+    batches: Batches,
     granted: u64,
     /// The most mappings that a grant left.
     largest: u64,
@@ -43,11 +45,72 @@ pub struct Tally {
     refused: ByNumber,
 }
 
-/// The number that a call on a table is answered with; 0 where it is not refused.
+/// How often batches had each kind of answer.
+#[derive(Default)]
+struct Batches {
+    all: u64,
+    granted: u64,
+    /// The requests of granted ones, and their operations.
+    requests: u64,
+    operations: u64,
+    /// Refused for themselves, and for a request: those for the first, and the highest place.
+    whole: ByNumber,
+    in_turn: ByNumber,
+    at_first: u64,
+    highest: u64,
+}
+
+impl Batches {
+    fn count(&mut self, records: &[u8], batched: &Batched) {
+        self.all += 1;
+        match batched {
+            Ok(grant) => {
+                self.granted += 1;
+                self.requests += (records.len() / RECORD_BYTES) as u64;
+                self.operations += grant.operations.len() as u64;
+            }
+            Err(BatchRefused::Whole(refused)) => self.whole[refused.number as usize] += 1,
+            Err(BatchRefused::InTurn(refused)) => {
+                self.in_turn[refused.number as usize] += 1;
+                self.at_first += u64::from(refused.place == 0);
+                self.highest = self.highest.max(refused.place);
+            }
+        }
+    }
+
+    fn summary(&self) -> String {
+        let Batches {
+            all,
+            granted,
+            requests,
+            operations,
+            at_first,
+            highest,
+            ..
+        } = self;
+        let whole = OF_BATCHES.map(|number| format!("{number}: {}", self.whole[number as usize]));
+        let in_turn = IN_TURN.map(|number| format!("{number}: {}", self.in_turn[number as usize]));
+        let refused: u64 = self.in_turn.iter().sum();
+        format!(
+            "{granted} of {all} batches granted, with {requests} requests and {operations} \
+             operations\n\
+             batches refused themselves {}\n\
+             {refused} batches refused for a request, {at_first} of them for the first, up to place \
+             {highest}: {}",
+            whole.join(", "),
+            in_turn.join(", ")
+        )
+    }
+}
+
+/// The number that a call on a table is answered with; 0 where it is not refused. A batch that is
+/// refused for a request has a good table too.
 fn number_of(asked: &Asked) -> Option<u32> {
     let refused = match asked {
-        Asked::Numbers(_, bound) | Asked::Record(_, bound) => bound.as_ref().err(),
-        Asked::Lookup(_, looked) => looked.as_ref().err(),
+        Asked::Numbers(_, bound) | Asked::Record(_, bound) => bound.as_ref().err().copied(),
+        Asked::Batch(_, Err(BatchRefused::InTurn(_))) => return Some(NO_ROOM),
+        Asked::Batch(_, batched) => batched.as_ref().err().map(|refused| refused.refused()),
+        Asked::Lookup(_, looked) => looked.as_ref().err().copied(),
         Asked::Check(..) => return None,
     };
     Some(refused.map_or(OK, |refused| refused.number))
@@ -72,6 +135,7 @@ impl Tally {
                     self.by_record += 1;
                     self.count_bound(&call.table, bound);
                 }
+                Asked::Batch(records, batched) => self.count_batch(records, batched),
                 Asked::Lookup(address, looked) => {
                     self.lookups += 1;
                     self.count_looked(&call.table, *address, looked);
@@ -128,6 +192,14 @@ impl Tally {
         }
     }
 
+    fn count_batch(&mut self, records: &[u8], batched: &Batched) {
+        self.batches.count(records, batched);
+        match batched {
+            Ok(grant) => self.largest = self.largest.max(grant.count),
+            Err(refused) => self.refused[refused.refused().number as usize] += 1,
+        }
+    }
+
     fn count_looked(&mut self, table: &Table, address: u64, looked: &Looked) {
         match looked {
             Ok(seen) => self.sights.count(table, address, *seen),
@@ -148,17 +220,19 @@ impl Tally {
             refused: [passed, ..],
             ..
         } = self;
-        let calls = by_numbers + by_record + lookups + checks;
+        let batches = self.batches.all;
+        let calls = by_numbers + by_record + batches + lookups + checks;
         let times = |number: u32| self.refused[number as usize];
         let refused = NUMBERS.map(|number| format!("{number}: {}", times(number)));
         format!(
             "host/soak: passed, seed {seed}, {rounds} rounds\n\
              {calls} calls, each made three ways: {by_numbers} requests by numbers, {by_record} by \
-             record, {lookups} look-ups, {checks} checks\n\
+             record, {batches} batches, {lookups} look-ups, {checks} checks\n\
              {granted} requests granted, on tables of up to {largest} mappings; {passed} checks \
              passed\n\
-             {}\n{}\n{}\n{}\n\
+             {}\n{}\n{}\n{}\n{}\n\
              refused {}",
+            self.batches.summary(),
             self.of_tables(),
             self.of_lists(),
             self.of_marks(),
