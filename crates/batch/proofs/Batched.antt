@@ -17,13 +17,13 @@ use Rattle.model.proofs.Tests.{tests}
 use Rattle.model.proofs.Rows.{answered-passed}
 use Rattle.model.proofs.Groups.{LentPassed, lent-passed, other-between}
 use Rattle.model.proofs.Store.{length-mappings}
-use Rattle.model.proofs.Zeros.{stale-zeros}
 use Rattle.model.proofs.Granted.{Good}
 use Rattle.batches.proofs.Relent.{relent-same}
 use Rattle.batches.specs.Batch.{requestsIn, batchRow, workRow, batchRows, turnsRows, batchGrant, BatchOutcome, batchOutcome, turns, bindBatch}
-use Rattle.bind.proofs.Checked.{valid-by}
+use Rattle.bind.specs.Bound.{Checked}
+use Rattle.bind.proofs.Checked.{checked-of}
 use Rattle.change.specs.Change.{Changed}
-use Rattle.batch.specs.Turns.{Checked, turned, committing, committed}
+use Rattle.batch.specs.Turns.{turned, committing, committed}
 use Rattle.batch.proofs.Turned.{madeAll, Whole, Is, turned-is}
 
 -- with the count of sparse ranges
@@ -74,7 +74,7 @@ module _ (s : Space) (l : Lent) (ws os bs : List ℕ) where
       passed = lent-passed s between l (answered-passed (lentRows s between l) tt tt (sym e) .0)
 
       pub checked : Checked s (l .table)
-      checked = record { space = passed .table .space; table = valid-by s l passed; behind = stale-zeros (l .table) .0 (passed .table .behind) }
+      checked = checked-of s l passed
 
       pub as-long : length ws ≡ length (l .table .words)
       as-long = omega (tests, passed .table .others)

@@ -1,20 +1,23 @@
 -- One request in its turn, by what its rows say; and what a grant keeps.
 -- Assumes nothing.
 use mathlib.Core.Path.{_≡_, refl, sym, ap, subst, _∙_}
+use mathlib.Core.Logic.{inl, inr}
 use mathlib.Core.List.{List, [], _∷_, _++_}
 use Prim.Native.Nat.{ℕ, _*_, _≤_}
 use native.Mathlib.Omega.{arith}
+use lib.Dec.{eqb, eqb→eq}
 use lib.ListN.{length}
+use Rattle.model.specs.declared.Grant.{Grant}
 use Rattle.model.specs.declared.Request.{Request}
 use Rattle.model.specs.declared.Space.{Space}
 use Rattle.model.specs.Rows.{Row, Reply, refused, answered, decide, verdict}
 use Rattle.model.specs.Rules.{formRows, requestRows}
 use Rattle.model.specs.Table.{Table, capacity, mappings, badPlace}
 use Rattle.model.specs.Cut.{after}
-use Rattle.model.specs.Calls.{bytes, requestOf, recordRow, recordRows, decode}
+use Rattle.model.specs.Calls.{bytes, requestOf, recordRow, recordRows, decode, Lent, Outcome}
 use Rattle.model.specs.Demand3.{Holds}
-use Rattle.model.proofs.Tests.{tests}
-use Rattle.model.proofs.Rows.{Passed, past, passed-split, answered-passed, andThen, decide-append, decide-verdict}
+use Rattle.model.proofs.Tests.{tests, or-cases}
+use Rattle.model.proofs.Rows.{past, passed-split, answered-passed, andThen, decide-append, decide-verdict}
 use Rattle.model.proofs.Groups.{form-passed, request-passed}
 use Rattle.model.proofs.Chain.{Chain}
 use Rattle.model.proofs.Table.{top, chain-good}
@@ -24,58 +27,80 @@ use Rattle.model.proofs.Granted.{after-chain}
 use Rattle.batches.specs.Batch.{turnRows}
 use Rattle.table.specs.Places.{lent}
 use Rattle.table.proofs.Places.{valid-chain}
-use Rattle.change.specs.Change.{Ready, Changed, changedFor, made, changed}
-use Rattle.bind.proofs.Checked.{offset-most}
-use Rattle.batch.specs.Turns.{Checked, oneAsked, one}
+use Rattle.change.specs.Change.{Changed, changedFor, made, roomRows}
+use Rattle.bind.specs.Bound.{Checked, boundKnown}
+use Rattle.bind.proofs.Lasts.{withList, besideList, list-beside}
+use Rattle.batch.specs.Turns.{one, madeOf}
 
--- a reply's refusal, or what comes after its answer
-abbrev pub then : {A : Type 0} → Reply A → Table → List ℕ → (A → Changed) → Changed
-then (refused n p) t os f = record { reply = refused n p; table = t .words; operations = os }
-then (answered a) t os f = f a
+-- ── by what the record says ──
+
+-- past 14 a request has no flags
+pub no-flags : (bs : List ℕ) {r : Request} → answered r ≡ decode 0 bs → r .flags ≡ 0
+unfolding decode recordRows
+no-flags bs {r} e =
+    let p = answered-passed (recordRows 0 bs) (requestOf bs) r (sym e) in
+    let k = form-passed 0 (requestOf bs) (p .0 .1) in
+    ap (λ (r : Request). r .flags) (p .1)
+    ∙ elim (or-cases (eqb (requestOf bs .flags) 0) (eqb (requestOf bs .flags) 0) (k .flags .0)) [ inl e ↦ eqb→eq _ 0 e | inr e ↦ eqb→eq _ 0 e ]
 
 module _ (s : Space) (t : Table) (os : List ℕ) where
   abbrev by : Request → List Row → Changed
   by r ws = changedFor (decide ws (made r t)) r t os
 
-  changed-then : (r : Request) (ws vs : List Row) → by r (ws ++ vs) ≡ then (verdict ws) t os (λ _. by r vs)
+  -- 6 to 11 and 16
+  abbrev asked : Request → Changed
+  asked r = by r (requestRows s r ++ roomRows r t (length os))
+
+  -- a reply's refusal, or what comes after its answer
+  abbrev then : {A : Type 0} → Reply A → (A → Changed) → Changed
+  then (refused n p) f = record { reply = refused n p; table = t .words; operations = os }
+  then (answered a) f = f a
+
+  changed-then : (r : Request) (ws vs : List Row) → by r (ws ++ vs) ≡ then (verdict ws) (λ _. by r vs)
   changed-then r ws vs = rw (decide-append ws vs (made r t)) (go (verdict ws))
     where
-      go : (u : Reply (Unit {0})) → changedFor (andThen u (decide vs (made r t))) r t os ≡ then u t os (λ _. by r vs)
+      go : (u : Reply (Unit {0})) → changedFor (andThen u (decide vs (made r t))) r t os ≡ then u (λ _. by r vs)
       go (refused n p) = refl
       go (answered v) = refl
 
-  pub asked-by : (r : Request) {u : Reply (Unit {0})} → u ≡ verdict (requestRows s r) → oneAsked s t os r ≡ then u t os (λ _. changed r t os)
-  unfolding oneAsked changed
-  asked-by r e = rw e (changed-then r (requestRows s r) _)
-
-  pub record-by : (bs : List ℕ) {d : Reply Request} → length bs ≡ 40 → d ≡ decode 0 bs → one s t os (requestOf bs) ≡ then d t os (oneAsked s t os)
-  unfolding one oneAsked recordRows decode
+  pub record-by : (bs : List ℕ) {d : Reply Request} → length bs ≡ 40 → d ≡ decode 0 bs → one s t os (requestOf bs) ≡ then d asked
+  unfolding one recordRows decode
   record-by bs l e =
       changed-then r (formRows 0 r) _
       ∙ go (verdict (formRows 0 r))
-      ∙ sym (ap (λ d. then d t os (oneAsked s t os)) (e ∙ past (recordRow (bytes bs) ∷ []) (formRows 0 r) r ((omega (tests, l), tt), tt) ∙ decide-verdict (formRows 0 r) r))
+      ∙ sym (ap (λ d. then d asked) (e ∙ past (recordRow (bytes bs) ∷ []) (formRows 0 r) r ((omega (tests, l), tt), tt) ∙ decide-verdict (formRows 0 r) r))
     where
       r : Request
       r = requestOf bs
 
-      go : (u : Reply (Unit {0})) → then u t os (λ _. oneAsked s t os r) ≡ then (andThen u (answered r)) t os (oneAsked s t os)
+      go : (u : Reply (Unit {0})) → then u (λ _. asked r) ≡ then (andThen u (answered r)) asked
       go (refused n p) = refl
       go (answered v) = refl
 
-  -- where rows 6 to 10 pass, the request can be carried out
-  pub ready : (r : Request) → Checked s t → answered tt ≡ verdict (requestRows s r) → Ready r t
-  ready r c e =
-      let ask = request-passed s r (answered-passed (requestRows s r) tt tt (sym e) .0) in
-      record {
-        table = c .table .0;
-        behind = c .behind;
-        not-empty = omega (tests, ask .alignment);
-        stop-most = omega (tests, ask .range, c .space);
-        offset-most = offset-most r ask;
-      }
+-- what `bind` leaves of a request on a table that is known to pass, without the list
+pub known-by : (s : Space) (l : Lent) (os : List ℕ) (r : Request) {a : Reply Grant} {ws rs vs : List ℕ}
+    → boundKnown s l os r ≡ record { answer = a; table = ws; ranges = rs; operations = vs }
+    → changedFor (decide (requestRows s r ++ roomRows r (l .table) (length os)) (made r (l .table))) r (l .table) os
+    ≡ record { reply = madeOf a; table = ws; operations = vs }
+unfolding boundKnown
+known-by s l os r e = sym (same c) ∙ ap strip (sym (list-beside r l os (requestRows s r ++ roomRows r (l .table) (length os))) ∙ e)
+  where
+    c : Changed
+    c = changedFor (decide (requestRows s r ++ roomRows r (l .table) (length os)) (made r (l .table))) r (l .table) os
 
-  -- ── what a grant keeps ──
+    strip : Outcome → Changed
+    strip o = record { reply = madeOf (o .answer); table = o .table; operations = o .operations }
 
+    same : (c : Changed) → strip (besideList l c) ≡ c
+    same c = λ i. record { reply = replies (c .reply) i; table = c .table; operations = c .operations }
+      where
+        replies : (u : Reply (ℕ × ℕ)) → madeOf (withList u (l .ranges .count)) ≡ u
+        replies (refused n p) = refl
+        replies (answered g) = refl
+
+-- ── what a grant keeps ──
+
+module _ (s : Space) (t : Table) (os : List ℕ) where
   chain : Checked s t → Chain s 0 (top s) (mappings t)
   chain c = subst (λ (s : Space). Chain s 0 (top s) (mappings t)) (c .table .1) (valid-chain (c .table .0))
 

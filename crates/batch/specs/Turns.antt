@@ -4,34 +4,25 @@ use mathlib.Core.Path.{_≡_}
 use mathlib.Core.List.{List, [], _∷_, _++_}
 use Prim.Native.Nat.{ℕ, suc, _+_, _*_}
 use lib.ListN.{take, drop, length, replicate}
+use Rattle.model.specs.declared.Grant.{Grant}
 use Rattle.model.specs.declared.Request.{Request}
 use Rattle.model.specs.declared.Space.{Space}
 use Rattle.model.specs.Rows.{Reply, refused, answered, decide}
-use Rattle.model.specs.Rules.{spaceTests, requestRows}
 use Rattle.model.specs.Table.{Table, capacity, mappings}
-use Rattle.model.specs.Calls.{refusalReply}
-use Rattle.model.proofs.Tests.{Alls}
 use Rattle.batches.specs.Batch.{turnRows, BatchOutcome}
-use Rattle.words.specs.Words.{ZeroFrom}
-use Rattle.table.specs.Places.{lent, ValidIn}
-use Rattle.change.specs.Change.{Changed, changedFor, made, roomRows}
-use Rattle.batch.specs.declared.TurnAnswer.{TurnAnswer}
-use Rattle.batch.specs.declared.TurnAnswer.the-variants.{Made as TurnMade, Refused as TurnRefused}
+use Rattle.table.specs.Places.{lent}
+use Rattle.change.specs.Change.{Changed, changedFor, made}
 use Rattle.batch.specs.declared.TurnsAnswer.{TurnsAnswer}
 use Rattle.batch.specs.declared.TurnsAnswer.the-variants.{Made, Refused}
 
--- a table that passed its check, with zeros behind its last mapping, in a space that keeps its rules. A grant keeps it so
-pub record Checked (s : Space) (t : Table) : Type 0 where
-  pub space : Alls (spaceTests s)
-  pub table : ValidIn s (t .words) (t .count)
-  pub behind : ZeroFrom (t .words) (4 * t .count)
-
--- one request: 6 to 11 and 16; and 13 and 14 before them
-unfoldable pub oneAsked : Space → Table → List ℕ → Request → Changed
-oneAsked s t os r = changedFor (decide (requestRows s r ++ roomRows r t (length os)) (made r t)) r t os
-
+-- one request: 13, 14, 6 to 11 and 16
 unfoldable pub one : Space → Table → List ℕ → Request → Changed
 one s t os r = changedFor (decide (turnRows s (capacity t) (length os) r (mappings t)) (made r t)) r t os
+
+-- a grant's numbers of operations and of mappings afterwards
+abbrev pub madeOf : Reply Grant → Reply (ℕ × ℕ)
+madeOf (refused n p) = refused n p
+madeOf (answered g) = answered (g .operations, g .count)
 
 -- k operations, whose words are `front`, before those of o
 abbrev pub more : ℕ → Reply (ℕ × ℕ) → Reply (ℕ × ℕ)
@@ -66,11 +57,7 @@ committing k (answered g) o ws vs os = record {
 unfoldable pub committed : ℕ → Changed → List ℕ → List ℕ → List ℕ → BatchOutcome
 committed k o ws vs os = committing k (o .reply) o ws vs os
 
--- the answer enums of src/lib.rt
-abbrev pub turnReply : TurnAnswer → Reply (ℕ × ℕ)
-turnReply (TurnMade n count) = answered (n, count)
-turnReply (TurnRefused w) = refusalReply w
-
+-- the answer enum of src/lib.rt
 abbrev pub turnsReply : TurnsAnswer → Reply (ℕ × ℕ)
 turnsReply (Made n count) = answered (n, count)
 turnsReply (Refused n p) = refused n p

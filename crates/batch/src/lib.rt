@@ -1,12 +1,11 @@
 // The public call for a whole array of requests (document 02, Item 2): all are granted, or none. The table and the list are
-// checked once; each request is then carried out on the table in place, which a grant leaves valid for the next one. What the
+// checked once; each request then goes to `bind` on a table that is known to pass, which a grant leaves so for the next one. What the
 // table held before stands in the work table, and is put back where a request is refused.
 use batches::BatchAnswer;
-use change::ChangeAnswer;
+use model::Answer;
 use model::Decoded;
 use model::Grant;
 use model::Refusal;
-use model::Request;
 use model::Space;
 use model::Verdict;
 ghost use mathlib.Core.Path.{_≡_};
@@ -14,21 +13,16 @@ ghost use mathlib.Core.List.{[], _∷_};
 ghost use lib.ListN.{length};
 ghost use Rattle.model.specs.Rows.{all, verdict};
 ghost use Rattle.model.specs.Table.{operationsRow, tableRows};
-ghost use Rattle.model.specs.Calls.{requestOf, lentRows, verdictReply};
+ghost use Rattle.model.specs.Calls.{requestOf, lentRows, verdictReply, answerReply};
 ghost use Rattle.batches.specs.Batch.{requestsIn, batchRow, workRow, bindBatch, batchReply};
 ghost use Rattle.table.specs.Places.{lent};
-ghost use Rattle.bind.specs.Bound.{lentWords};
-ghost use Rattle.batch.specs.Turns.{Checked, oneAsked, one, turnReply, turned, turnsReply, committed};
+ghost use Rattle.bind.specs.Bound.{lentWords, Checked};
+ghost use Rattle.batch.specs.Turns.{one, madeOf, turned, turnsReply, committed};
 
 const MOST_RECORDS: usize = 64;
 
-// What a request in its turn came to: so many operations and so many mappings afterwards, or a refusal.
-pub enum TurnAnswer {
-    Made(usize, usize),
-    Refused(Refusal),
-}
-
-// What all of them came to: so many operations and mappings, or the number and place of the first refusal.
+// What the requests came to: so many operations and so many mappings afterwards, or the number and place of the first
+// refusal.
 pub enum TurnsAnswer {
     Made(usize, usize),
     Refused(u32, usize),
@@ -80,47 +74,40 @@ fn lent_verdict(
     }
 }
 
-// A request whose form is right, in its turn: rows 6 to 11 and 16, or the table cut and the operations from the first word on.
-fn turn_request(
-    s: Space,
-    table: &mut [u64],
-    count: usize,
-    operations: &mut [u64],
-    r: Request,
-) -> TurnAnswer
-    requires { ⌜ Checked s (lent (now table) count) ⌝ }
-    ensures { λ a. ⌜ oneAsked s (lent (now (table .entry)) count) (now (operations .entry)) r ≡ record { reply = turnReply a; table = now (table .exit); operations = now (operations .exit) } ⌝ }
-{
-    match rules::request_verdict(s, r) {
-        Verdict::Refuse(w) => TurnAnswer::Refused(w),
-        Verdict::Pass => match change::change(r, table, count, operations) {
-            ChangeAnswer::NoRoom => TurnAnswer::Refused(Refusal::NoRoom),
-            ChangeAnswer::ShortOutput => TurnAnswer::Refused(Refusal::ShortOutput),
-            ChangeAnswer::Made(made, after) => TurnAnswer::Made(made, after),
-        },
-    }
-}
-
-// A record in its turn: rows 13 and 14 before those. No flag is served.
+// A record in its turn: rows 13 and 14, of which no flag is served, 6 to 11 and 16, or the table cut and the operations from
+// the first word on.
 fn turn(
     s: Space,
+    ranges: &[u64],
+    range_count: usize,
     table: &mut [u64],
     count: usize,
     operations: &mut [u64],
     record: &[u8],
-) -> TurnAnswer
+) -> Answer
     requires { ⌜ Checked s (lent (now table) count) × (length (now «record») ≡ 40) ⌝ }
-    ensures { λ a. ⌜ one s (lent (now (table .entry)) count) (now (operations .entry)) (requestOf (now («record» .entry))) ≡ record { reply = turnReply a; table = now (table .exit); operations = now (operations .exit) } ⌝ }
+    ensures { λ a. ⌜ one s (lent (now (table .entry)) count) (now (operations .entry)) (requestOf (now («record» .entry))) ≡ record { reply = madeOf (answerReply a); table = now (table .exit); operations = now (operations .exit) } ⌝ }
 {
     match record::decode(record, 0) {
-        Decoded::Refuse(w) => TurnAnswer::Refused(w),
-        Decoded::Record(r) => turn_request(s, table, count, operations, r),
+        Decoded::Refuse(w) => Answer::Refused(w),
+        Decoded::Record(r) => bind::bind_request(
+            true,
+            s,
+            ranges,
+            range_count,
+            table,
+            count,
+            operations,
+            r,
+        ),
     }
 }
 
 // All records, one after another, until one is refused: each is lent the operation words that those before it left.
 fn turns(
     s: Space,
+    ranges: &[u64],
+    range_count: usize,
     table: &mut [u64],
     count: usize,
     operations: &mut [u64],
@@ -136,18 +123,20 @@ fn turns(
         let at = record::RECORD_BYTES * i;
         let answer = turn(
             s,
+            ranges,
+            range_count,
             table,
             held,
             &mut operations[cut::OPERATION_WORDS * used..],
             &records[at..at + record::RECORD_BYTES],
         );
         match answer {
-            TurnAnswer::Refused(w) => {
+            Answer::Refused(w) => {
                 return TurnsAnswer::Refused(rules::refusal_number(w), i);
             }
-            TurnAnswer::Made(made, after) => {
-                held = after;
-                used = used + made;
+            Answer::Granted(g) => {
+                held = g.count;
+                used = used + g.operations;
             }
         }
         i += 1;
@@ -159,18 +148,19 @@ fn turns(
 // left either. The work table is zeros afterwards.
 fn all_or_none(
     s: Space,
+    ranges: &[u64],
+    range_count: usize,
     table: &mut [u64],
     count: usize,
     work: &mut [u64],
     operations: &mut [u64],
     records: &[u8],
-    ranges: usize,
 ) -> BatchAnswer
     requires { ⌜ Checked s (lent (now table) count) × (length (now work) ≡ length (now table)) ⌝ }
-    ensures { λ a. ⌜ committed ranges (turned s 0 (requestsIn (now (records .entry))) (lent (now (table .entry)) count) (now (operations .entry))) (now (table .entry)) (now (work .entry)) (now (operations .entry)) ≡ record { answer = batchReply a; table = now (table .exit); work = now (work .exit); operations = now (operations .exit) } ⌝ }
+    ensures { λ a. ⌜ committed «range_count» (turned s 0 (requestsIn (now (records .entry))) (lent (now (table .entry)) count) (now (operations .entry))) (now (table .entry)) (now (work .entry)) (now (operations .entry)) ≡ record { answer = batchReply a; table = now (table .exit); work = now (work .exit); operations = now (operations .exit) } ⌝ }
 {
     words::store(work, 0, table);
-    match turns(s, table, count, operations, records) {
+    match turns(s, ranges, range_count, table, count, operations, records) {
         TurnsAnswer::Refused(number, place) => {
             words::store(table, 0, work);
             words::clear(work, 0, work.len());
@@ -182,7 +172,7 @@ fn all_or_none(
             BatchAnswer::Granted(Grant {
                 operations: made,
                 count: after,
-                ranges: ranges,
+                ranges: range_count,
             })
         }
     }
@@ -219,6 +209,15 @@ pub fn bind_batch(
         Verdict::Refuse(w) => {
             BatchAnswer::Refused(rules::refusal_number(w), rules::refusal_place(w))
         }
-        Verdict::Pass => all_or_none(s, table, count, work, operations, records, range_count),
+        Verdict::Pass => all_or_none(
+            s,
+            ranges,
+            range_count,
+            table,
+            count,
+            work,
+            operations,
+            records,
+        ),
     }
 }

@@ -65,7 +65,7 @@ some (suc n) h = omega arith
 
 module _ (s : Space) (l : Lent) (os : List ℕ) (r : Request) where
   -- the grant that says that these rows passed
-  abbrev pass : Grant
+  abbrev pub pass : Grant
   pass = record { operations = 0; count = l .table .count; ranges = l .ranges .count }
 
   abbrev rows : List Row

@@ -2,21 +2,20 @@
 -- Assumes nothing.
 use mathlib.Core.Path.{_≡_, refl, sym, ap, _∙_}
 use mathlib.Core.Bool.{Bool, true, false}
-use mathlib.Core.List.{List, _∷_}
+use mathlib.Core.List.{List, [], _∷_}
 use Prim.Native.Nat.{ℕ, zero, suc, _+_, _-_, _*_, _≤_, _<_}
 use native.Mathlib.Omega.{arith}
-use lib.Dec.{leb}
 use lib.ListN.{length}
 use borrow.Author.Tests.{le-leb}
 use Rattle.model.specs.declared.Grant.{Grant}
 use Rattle.model.specs.declared.Range.{Range}
 use Rattle.model.specs.declared.Request.{Request}
-use Rattle.model.specs.Rows.{all, Reply, refused, answered, decide}
+use Rattle.model.specs.Rows.{all, choose, Row, Reply, refused, answered, decide}
 use Rattle.model.specs.Rules.{stop}
-use Rattle.model.specs.Table.{capacity, mappings}
+use Rattle.model.specs.Table.{mappings}
 use Rattle.model.specs.Ranges.{RangeList, ranges, listed, insertRange, removeRange}
-use Rattle.model.specs.Cut.{after, operations}
-use Rattle.model.specs.Calls.{Lent, cuts, adds, removes, purposeFor, purpose, rangeOf, listGrant, Outcome, untouched}
+use Rattle.model.specs.Cut.{operations}
+use Rattle.model.specs.Calls.{Lent, cuts, adds, removes, purposeFor, purpose, rangeOf, cutGrant, listGrant, Outcome, untouched, outcomeFor}
 use Rattle.model.specs.Exactly.{_∈_}
 use Rattle.model.proofs.Tests.{all-facts, all-true, all-false, not-facts}
 use Rattle.model.proofs.Rows.{andThen, not-both}
@@ -24,8 +23,8 @@ use Rattle.model.proofs.Ranges.{listed-says, length-ranges}
 use Rattle.model.proofs.Relisted.{insert-length, remove-length}
 use Rattle.table.specs.Places.{freeTests}
 use Rattle.ranges.specs.Changes.{ListOutcome, overlapRow, fullRow, added, removed}
-use Rattle.change.specs.Change.{Changed, changed}
-use Rattle.bind.specs.Bound.{decided}
+use Rattle.change.specs.Change.{Changed, changedFor, made, roomRows, changed}
+use Rattle.bind.specs.Bound.{decided, cutting}
 
 -- ── without the flag ──
 
@@ -34,18 +33,31 @@ abbrev pub withList : Reply (ℕ × ℕ) → ℕ → Reply Grant
 withList (refused n p) k = refused n p
 withList (answered g) k = answered (record { operations = g .0; count = g .1; ranges = k })
 
--- row 16 has nothing to say where the operations fit
-pub cuts-by : (r : Request) (l : Lent) (os : List ℕ) {u : Reply (ℕ × ℕ)} {ws vs : List ℕ} → 14 * length (operations r (mappings (l .table))) ≤ length os → changed r (l .table) os ≡ record { reply = u; table = ws; operations = vs }
-    → decided cuts r l os ≡ record { answer = withList u (l .ranges .count); table = ws; ranges = l .ranges .words; operations = vs }
-unfolding changed decided decide
-cuts-by r l os {u} {ws} {vs} fits e = go (leb (length (after r (mappings (l .table)))) (capacity (l .table))) refl ∙ ap outcome e
-  where
-    outcome : Changed → Outcome
-    outcome c = record { answer = withList (c .reply) (l .ranges .count); table = c .table; ranges = l .ranges .words; operations = c .operations }
+abbrev pub besideList : Lent → Changed → Outcome
+besideList l c = record { answer = withList (c .reply) (l .ranges .count); table = c .table; ranges = l .ranges .words; operations = c .operations }
 
-    go : (b : Bool) → leb (length (after r (mappings (l .table)))) (capacity (l .table)) ≡ b → decided cuts r l os ≡ outcome (changed r (l .table) os)
-    go true q = simp (q, le-leb (14 * length (operations r (mappings (l .table)))) (length os) fits)
-    go false q = simp q
+-- what rows decide of a request that cuts the table, with the list's count and without
+pub list-beside : (r : Request) (l : Lent) (os : List ℕ) (ws : List Row)
+    → outcomeFor (decide ws (cutGrant r l)) cuts r l os ≡ besideList l (changedFor (decide ws (made r (l .table))) r (l .table) os)
+unfolding decide
+list-beside r l os [] = refl
+list-beside r l os (w ∷ ws) = go (all (w .tests)) (list-beside r l os ws)
+  where
+    go : (b : Bool) → outcomeFor (decide ws (cutGrant r l)) cuts r l os ≡ besideList l (changedFor (decide ws (made r (l .table))) r (l .table) os)
+        → outcomeFor (choose b (decide ws (cutGrant r l)) (refused (w .number) (w .place))) cuts r l os
+        ≡ besideList l (changedFor (choose b (decide ws (made r (l .table))) (refused (w .number) (w .place))) r (l .table) os)
+    go true ih = ih
+    go false ih = refl
+
+pub cuts-by : (r : Request) (l : Lent) (os : List ℕ) {u : Reply (ℕ × ℕ)} {ws vs : List ℕ} → changed r (l .table) os ≡ record { reply = u; table = ws; operations = vs }
+    → cutting r l os ≡ record { answer = withList u (l .ranges .count); table = ws; ranges = l .ranges .words; operations = vs }
+unfolding changed cutting
+cuts-by r l os e = list-beside r l os (roomRows r (l .table) (length os)) ∙ ap (besideList l) e
+
+-- row 16 has nothing to say where the operations fit
+pub fits-settled : (r : Request) (l : Lent) (os : List ℕ) → 14 * length (operations r (mappings (l .table))) ≤ length os → decided cuts r l os ≡ cutting r l os
+unfolding decided cutting decide
+fits-settled r l os fits = simp (le-leb (14 * length (operations r (mappings (l .table)))) (length os) fits)
 
 -- ── with the flag ──
 

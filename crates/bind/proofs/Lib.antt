@@ -2,3 +2,4 @@ pub mod Binds
 pub mod Checked
 pub mod Lasts
 pub mod Lookups
+pub mod Requested

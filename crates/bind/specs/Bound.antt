@@ -1,18 +1,20 @@
 -- What is lent, in slices; and a request whose form is right, by numbers or decoded: what is left of the public call.
 -- Assumes nothing.
+use mathlib.Core.Bool.{Bool, true, false}
 use mathlib.Core.List.{List, [], _∷_, _++_}
 use Prim.Native.Nat.{ℕ, zero, suc, _*_, _≤_, _<_}
 use lib.ListN.{length}
 use Rattle.model.specs.declared.Request.{Request}
 use Rattle.model.specs.declared.Space.{Space}
 use Rattle.model.specs.Rows.{Row, Reply, refused, answered, decide}
-use Rattle.model.specs.Rules.{limit, stop, spaceRow, requestRows}
-use Rattle.model.specs.Table.{Table, mappings, lengthRow, operationsRow}
-use Rattle.model.specs.Cut.{operations}
-use Rattle.model.specs.Calls.{Asking, numbers, Lent, lentRows, Purpose, purpose, lastRows, grantFor, Outcome, untouched, outcomeFor}
-use Rattle.table.specs.Places.{lent, Valid}
+use Rattle.model.specs.Rules.{limit, stop, spaceTests, spaceRow, requestRows}
+use Rattle.model.specs.Table.{Table, lengthRow, operationsRow}
+use Rattle.model.specs.Calls.{Asking, numbers, Lent, lentRows, Purpose, cuts, purpose, lastRows, cutGrant, grantFor, Outcome, untouched, outcomeFor}
+use Rattle.model.proofs.Tests.{Alls}
+use Rattle.words.specs.Words.{ZeroFrom}
+use Rattle.table.specs.Places.{lent, Valid, ValidIn}
 use Rattle.ranges.specs.Lists.{lentList, ValidList}
-use Rattle.change.specs.Change.{Ready}
+use Rattle.change.specs.Change.{roomRows}
 use Rattle.bind.specs.declared.Numbers.{Numbers}
 
 -- a list of sparse ranges and a table in lent slices of words, each with its count
@@ -31,9 +33,18 @@ lengthRows s n ws = spaceRow s ∷ lengthRow (lent ws 0) ∷ operationsRow n (le
 abbrev pub checkedRows : Space → Lent → ℕ → Request → List Row
 checkedRows s l n r = lentRows s (operationsRow n (l .table) ∷ []) l ++ requestRows s r
 
+-- without those that are known to pass
+abbrev pub frontRows : Bool → Space → Lent → ℕ → Request → List Row
+frontRows true s l n r = requestRows s r
+frontRows false s l n r = checkedRows s l n r
+
 -- where these passed, 19, 20 and 11 decide, by what the request is for
 unfoldable pub decided : Purpose → Request → Lent → List ℕ → Outcome
 decided for r l os = outcomeFor (decide (lastRows for r l) (grantFor for r l)) for r l os
+
+-- where 6 to 10 passed of a request without the flag, and row 3 is not settled: 11 and 16
+unfoldable pub cutting : Request → Lent → List ℕ → Outcome
+cutting r l os = outcomeFor (decide (roomRows r (l .table) (length os)) (cutGrant r l)) cuts r l os
 
 -- all of them
 unfoldable pub bound : Space → Lent → List ℕ → Request → Outcome
@@ -54,11 +65,20 @@ partlyFor (suc f) s l os r =
 abbrev pub partly : Space → Lent → List ℕ → Request → Outcome
 partly s l os r = partlyFor (r .flags) s l os r
 
--- what cutting the table asks for: a request in order on a table that passed its check, and as many words, n, as the
--- operations have
-pub record Fitting (r : Request) (t : Table) (n : ℕ) : Type 0 where
-  pub ready : Ready r t
-  pub fits : 14 * length (operations r (mappings t)) ≤ n
+-- a table that passed its check, with zeros behind its last mapping, in a space that keeps its rules. A grant without the
+-- flag keeps it so
+pub record Checked (s : Space) (t : Table) : Type 0 where
+  pub space : Alls (spaceTests s)
+  pub table : ValidIn s (t .words) (t .count)
+  pub behind : ZeroFrom (t .words) (4 * t .count)
+
+-- a request without the flag on such a table: 6 to 11 and 16
+unfoldable pub boundKnown : Space → Lent → List ℕ → Request → Outcome
+boundKnown s l os r = outcomeFor (decide (requestRows s r ++ roomRows r (l .table) (length os)) (cutGrant r l)) cuts r l os
+
+abbrev pub requested : Bool → Space → Lent → List ℕ → Request → Outcome
+requested true s l os r = boundKnown s l os r
+requested false s l os r = partly s l os r
 
 -- what changing the list asks for: a table and a list that passed their checks, and a range in order
 pub record Relistable (r : Request) (l : Lent) : Type 0 where

@@ -24,7 +24,8 @@ ghost use Rattle.model.specs.Calls.{bytes, lentRows, cuts, adds, removes, purpo
 ghost use Rattle.model.specs.Demand3.{IsGrant};
 ghost use Rattle.table.specs.Places.{lent};
 ghost use Rattle.ranges.specs.Lists.{lentList};
-ghost use Rattle.bind.specs.Bound.{lentWords, numbersOf, lengthRows, checkedRows, Fitting, Relistable, then, decided, partly};
+ghost use Rattle.change.specs.Change.{Ready};
+ghost use Rattle.bind.specs.Bound.{lentWords, numbersOf, lengthRows, frontRows, Checked, cutting, Relistable, then, decided, requested};
 
 // A request by its numbers: op 0 maps, op 1 unmaps, another is refused.
 #[repr(C)]
@@ -157,8 +158,9 @@ fn lent_verdict(
     }
 }
 
-// Rows 1 to 5, 17, 18 and 6 to 10.
+// Rows 1 to 5, 17 and 18, unless they are known to pass; then 6 to 10.
 fn bind_verdict(
+    known: bool,
     s: Space,
     ranges: &[u64],
     range_count: usize,
@@ -167,16 +169,19 @@ fn bind_verdict(
     operation_words: usize,
     r: Request,
 ) -> Verdict
-    ensures { λ v. ⌜ verdictReply v ≡ verdict (checkedRows s (lentWords (now (ranges .entry)) «range_count» (now (table .entry)) count) «operation_words» r) ⌝ }
+    ensures { λ v. ⌜ verdictReply v ≡ verdict (frontRows known s (lentWords (now (ranges .entry)) «range_count» (now (table .entry)) count) «operation_words» r) ⌝ }
 {
-    match lent_verdict(s, ranges, range_count, table, count, operation_words) {
-        Verdict::Refuse(w) => Verdict::Refuse(w),
-        Verdict::Pass => rules::request_verdict(s, r),
+    if !known {
+        let verdict = lent_verdict(s, ranges, range_count, table, count, operation_words);
+        if let Verdict::Refuse(w) = verdict {
+            return Verdict::Refuse(w);
+        }
     }
+    rules::request_verdict(s, r)
 }
 
-// A request without the flag that passed rows 1 to 10, 17 and 18: row 11, or the table cut. Row 3 has settled that the
-// operations fit, so that 16 never comes. The list plays no part; its count is answered.
+// A request without the flag that passed rows 1 to 10, 17 and 18: rows 11 and 16, or the table cut. The list plays no part;
+// its count is answered.
 fn cut_table(
     r: Request,
     table: &mut [u64],
@@ -184,8 +189,8 @@ fn cut_table(
     operations: &mut [u64],
     ranges: usize,
 ) -> Answer
-    requires { ⌜ Fitting r (lent (now table) count) (length (now operations)) ⌝ }
-    ensures { λ a. ⌜ ((rs : List ℕ) → decided cuts r (lentWords rs ranges (now (table .entry)) count) (now (operations .entry)) ≡ record { answer = answerReply a; table = now (table .exit); ranges = rs; operations = now (operations .exit) }) ⌝ }
+    requires { ⌜ Ready r (lent (now table) count) ⌝ }
+    ensures { λ a. ⌜ ((rs : List ℕ) → cutting r (lentWords rs ranges (now (table .entry)) count) (now (operations .entry)) ≡ record { answer = answerReply a; table = now (table .exit); ranges = rs; operations = now (operations .exit) }) ⌝ }
 {
     match change::change(r, table, count, operations) {
         ChangeAnswer::NoRoom => Answer::Refused(Refusal::NoRoom),
@@ -252,8 +257,10 @@ fn remove_range(
 }
 
 // A request whose form is right: rows 1 to 5, 17, 18 and 6 to 10. One without the flag goes on to row 11; of one with it
-// the grant says that these passed, and what is left is the list's. The list is only read.
-fn bind_request(
+// the grant says that these passed, and what is left is the list's. The list is only read. Where the rows up to 18 are
+// known to pass, as for the requests of a batch, they are not tested again, row 3 neither: then 16 comes behind 11.
+pub fn bind_request(
+    known: bool,
     s: Space,
     ranges: &[u64],
     range_count: usize,
@@ -262,9 +269,19 @@ fn bind_request(
     operations: &mut [u64],
     r: Request,
 ) -> Answer
-    ensures { λ a. ⌜ partly s (lentWords (now (ranges .entry)) «range_count» (now (table .entry)) count) (now (operations .entry)) r ≡ record { answer = answerReply a; table = now (table .exit); ranges = now (ranges .entry); operations = now (operations .exit) } ⌝ }
+    requires { ⌜ (known ≡ true → Checked s (lent (now table) count) × (r .flags ≡ 0)) ⌝ }
+    ensures { λ a. ⌜ requested known s (lentWords (now (ranges .entry)) «range_count» (now (table .entry)) count) (now (operations .entry)) r ≡ record { answer = answerReply a; table = now (table .exit); ranges = now (ranges .entry); operations = now (operations .exit) } ⌝ }
 {
-    match bind_verdict(s, ranges, range_count, table, count, operations.len(), r) {
+    match bind_verdict(
+        known,
+        s,
+        ranges,
+        range_count,
+        table,
+        count,
+        operations.len(),
+        r,
+    ) {
         Verdict::Refuse(w) => Answer::Refused(w),
         Verdict::Pass => {
             if r.flags == 0 {
@@ -326,7 +343,7 @@ pub fn bind(
     };
     match rules::form_verdict(r, rules::SPARSE) {
         Verdict::Refuse(w) => Answer::Refused(w),
-        Verdict::Pass => bind_request(s, ranges, range_count, table, count, operations, r),
+        Verdict::Pass => bind_request(false, s, ranges, range_count, table, count, operations, r),
     }
 }
 
@@ -346,7 +363,7 @@ pub fn bind_record(
     match record::decode(record, rules::SPARSE) {
         Decoded::Refuse(w) => Answer::Refused(w),
         Decoded::Record(r) => {
-            let answer = bind_request(s, ranges, range_count, table, count, operations, r);
+            let answer = bind_request(false, s, ranges, range_count, table, count, operations, r);
             if r.flags == 0 {
                 return answer;
             }

@@ -48,10 +48,10 @@ returns c =
     let told = back .before .before .before .before in
     let went = told .before .before .before .before .before .before in
     let copied = went .before .before .before .before .before in
-    let start = copied .before .before .before .before .before .before .before in
+    let start = copied .before .before .before .before .before .before .before .before in
     let a = start .args in
-    none (a .ranges) (a .s) (requestsIn (a .records .now)) (a .table .now) (a .work .now) (a .operations .now) (a .count) (copied .store .ensures) (start .pre .1) (went .turns .ensures)
-    (ap turnsReply (told .number .given .1)) (back .store2 .ensures) (went .turns .kept .1 .0) (cleared .clear .ensures) (c .before .before .clear2 .ensures) (went .turns .kept .1 .1 .1 .0)
+    none (a .range-count) (a .s) (requestsIn (a .records .now)) (a .table .now) (a .work .now) (a .operations .now) (a .count) (copied .store .ensures) (start .pre .1) (went .turns .ensures)
+    (ap turnsReply (told .number .given .1)) (back .store2 .ensures) (went .turns .kept .1 .1 .1 .0) (cleared .clear .ensures) (c .before .before .clear2 .ensures) (went .turns .kept .1 .1 .1 .1 .1 .0)
 
 same-length-4 : tie.Need-same-length-4
 same-length-4 c = search needs
@@ -68,9 +68,9 @@ returns-2 c =
     let told = cleared .before .before .before in
     let went = told .before .before .before .before .before .before in
     let copied = went .before .before .before .before .before in
-    let start = copied .before .before .before .before .before .before .before in
+    let start = copied .before .before .before .before .before .before .before .before in
     let a = start .args in
-    every (a .ranges) (a .s) (requestsIn (a .records .now)) (a .table .now) (a .work .now) (a .operations .now) (a .count) (copied .store .ensures) (start .pre .1) (went .turns .ensures)
+    every (a .range-count) (a .s) (requestsIn (a .records .now)) (a .table .now) (a .work .now) (a .operations .now) (a .count) (copied .store .ensures) (start .pre .1) (went .turns .ensures)
     (ap turnsReply (told .made .given .1)) (cleared .clear3 .ensures)
 
 pub all-or-none-spec : {M : Type 1} → statement M

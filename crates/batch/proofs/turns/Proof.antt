@@ -6,25 +6,26 @@ use Prim.Native.Nat.{ℕ, _*_, _-_, _/_, _≤_}
 use native.Mathlib.Omega.{arith}
 use lib.ListN.{length}
 use Rattle.model.specs.Rows.{refused}
-use Rattle.model.specs.Calls.{numbered}
+use Rattle.model.specs.Calls.{numbered, answerReply}
 use Rattle.table.specs.Places.{lent}
-use Rattle.batch.specs.Turns.{turnReply}
+use Rattle.model.specs.declared.Answer.{Answer}
+use Rattle.batch.specs.Turns.{madeOf}
 use Rattle.batch.proofs.Steps.{Going, going-start, part-length, refused-there, granted-there, granted-fits, ends}
 use borrow.Author.Needs.{needs}
 use Rattle.batch.proofs.turns.Statement.{statement}
 use Rattle.batch.proofs.turns.Tie as tie
 
 abbrev Inv-loop : tie.InvT-loop
-Inv-loop s table₀ count operations₀ records held₀ used₀ i₀ table operations held used i =
+Inv-loop s ranges range-count table₀ count operations₀ records held₀ used₀ i₀ table operations held used i =
     (length table ≡ length table₀) × (length operations ≡ length operations₀) × (i ≤ length records / 40)
     × Going s records (lent table₀ count) operations₀ table held operations used i
 
 abbrev μ-loop : tie.MeasureT-loop
-μ-loop s table₀ count operations₀ records held₀ used₀ i₀ table operations held used i = length records / 40 - i
+μ-loop s ranges range-count table₀ count operations₀ records held₀ used₀ i₀ table operations held used i = length records / 40 - i
 
 loop-holds : tie.Need-loop-holds Inv-loop μ-loop
 loop-holds c =
-    let start = c .before .before .before in
+    let start = c .before .before .before .before in
     let a = start .args in
     (refl, refl, omega arith, going-start (a .s) (a .records .now) (lent (a .table .now) (a .count)) (a .operations .now) (start .pre))
 
@@ -81,36 +82,38 @@ returns c =
     let turned = told .before .before .before .before .before .before in
     let tested = turned .before .before .before .before in
     refused-there (tested .before .loop .inv .3) (turned .turn .ensures) (omega (arith, tested .loop-test .taken))
-    (ap turnReply (told .answer .given .1) ∙ ap (λ (n : ℕ). refused n (numbered (told .answer .given .0 .0) .1)) (sym (c .refusal-number .ensures)))
+    (ap (λ (a : Answer). madeOf (answerReply a)) (told .answer .given .1) ∙ ap (λ (n : ℕ). refused n (numbered (told .answer .given .0 .0) .1)) (sym (c .refusal-number .ensures)))
 
 enum-known-answer-2 : tie.Need-enum-known-answer-2 Inv-loop μ-loop
 enum-known-answer-2 c = search needs
 
 add-used : tie.Need-add-used Inv-loop μ-loop
 add-used c =
-    let told = c .before in
+    let told = c .before .before in
     let turned = told .before .before .before .before .before .before in
     let loop = turned .before .before .before .before .before in
-    let h = granted-fits (loop .loop .inv .3) (turned .turn .ensures) (ap turnReply (told .answer2 .given .1)) in
-    record { fits = omega (arith, h, loop .loop .inv .1, loop .before .before .before .before .good) }
+    let h = granted-fits (loop .loop .inv .3) (turned .turn .ensures) (ap (λ (a : Answer). madeOf (answerReply a)) (told .answer2 .given .1)) in
+    record { fits = omega (arith, h, loop .loop .inv .1, loop .before .before .before .before .before .good) }
 
 add-i : tie.Need-add-i Inv-loop μ-loop
-add-i c = search needs
+add-i c =
+    let tested = c .before .before .before .before .before .before .before .before .before .before .before .before in
+    record { fits = omega (arith, tested .loop-test .taken, tested .before .before .before .before .before .before .good) }
 
 loop-less : tie.Need-loop-less Inv-loop μ-loop
 loop-less c = search needs
 
 loop-again : tie.Need-loop-again Inv-loop μ-loop
 loop-again c =
-    let told = c .before in
+    let told = c .before .before in
     let turned = told .before .before .before .before .before .before in
     let tested = turned .before .before .before .before in
     let loop = tested .before in (
       search needs,
       search needs,
       omega (arith, tested .loop-test .taken),
-      granted-there (loop .loop .inv .3) (turned .turn .ensures) (omega (arith, tested .loop-test .taken)) (ap turnReply (told .answer2 .given .1))
-          (turned .turn .kept .1 .1 .1 .0 ∙ mid-len (14 * loop .loop .used) (length (loop .loop .operations)) (loop .loop .operations) (omega arith)),
+      granted-there (loop .loop .inv .3) (turned .turn .ensures) (omega (arith, tested .loop-test .taken)) (ap (λ (a : Answer). madeOf (answerReply a)) (told .answer2 .given .1))
+          (turned .turn .kept .1 .1 .1 .1 .1 .0 ∙ mid-len (14 * loop .loop .used) (length (loop .loop .operations)) (loop .loop .operations) (omega arith)),
     )
 
 same-length-3 : tie.Need-same-length-3 Inv-loop μ-loop

@@ -1,6 +1,7 @@
 -- `bind::bind` meets its contract.
 -- Assumes nothing.
-use mathlib.Core.Path.{sym, ap, _∙_}
+use mathlib.Core.Path.{sym, ap, subst, _∙_}
+use lib.Dec.{T}
 use Rattle.model.specs.Calls.{verdictReply}
 use Rattle.bind.specs.Bound.{lentWords}
 use Rattle.bind.proofs.Binds.{bind-by}
@@ -18,7 +19,7 @@ enum-told : tie.Need-enum-told
 enum-told c = search needs
 
 bind-request-requires : tie.Need-bind-request-requires
-bind-request-requires c κs = search needs
+bind-request-requires c κs = λ unknown. absurd (subst T (sym unknown) tt)
 
 returns : tie.Need-returns
 returns c =

@@ -1,6 +1,7 @@
 -- `bind::bind_record` meets its contract.
 -- Assumes nothing.
-use mathlib.Core.Path.{sym, ap, _∙_}
+use mathlib.Core.Path.{sym, ap, subst, _∙_}
+use lib.Dec.{T}
 use Rattle.model.specs.Calls.{decodedReply}
 use Rattle.bind.specs.Bound.{lentWords}
 use Rattle.bind.proofs.Binds.{bind-record-by, some, partly-plain, relistable-there, bound-is}
@@ -18,7 +19,7 @@ enum-known-r : tie.Need-enum-known-r
 enum-known-r c = search needs
 
 bind-request-requires : tie.Need-bind-request-requires
-bind-request-requires c κs = search needs
+bind-request-requires c κs = λ unknown. absurd (subst T (sym unknown) tt)
 
 same-length : tie.Need-same-length
 same-length c = search needs

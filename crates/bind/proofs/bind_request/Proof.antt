@@ -1,12 +1,10 @@
 -- `bind::bind_request` meets its contract.
 -- Assumes nothing.
 use mathlib.Core.Path.{sym, ap, _∙_}
-use Prim.Native.Nat.{ℕ}
-use lib.ListN.{length}
-use Rattle.model.specs.Calls.{purposeFor, verdictReply}
-use Rattle.bind.specs.Bound.{lentWords, decided}
-use Rattle.bind.proofs.Checked.{fitting}
-use Rattle.bind.proofs.Binds.{bound-by, some, partly-plain, partly-passed, partly-refused}
+use Rattle.model.specs.Calls.{verdictReply}
+use Rattle.bind.specs.Bound.{lentWords}
+use Rattle.bind.proofs.Binds.{some}
+use Rattle.bind.proofs.Requested.{ready-there, refused-there, cut-there, passed-there}
 use borrow.Author.Needs.{needs}
 use Rattle.bind.proofs.bind_request.Statement.{statement}
 use Rattle.bind.proofs.bind_request.Tie as tie
@@ -24,8 +22,10 @@ cut-table-requires : tie.Need-cut-table-requires
 cut-table-requires c κs =
     let passed = c .before .before .before .before in
     let checked = passed .before .before in
-    let a = checked .before .before .before .before .before .args in
-    fitting (a .s) (lentWords (a .ranges .now) (a .range-count) (a .table .now) (a .count)) (length (a .operations .now)) (a .r) (sym (ap verdictReply (passed .enum-told .given .1)) ∙ checked .bind-verdict .ensures)
+    let start = checked .before .before .before .before .before in
+    let a = start .args in
+    ready-there (a .s) (lentWords (a .ranges .now) (a .range-count) (a .table .now) (a .count)) (a .operations .now) (a .r) (a .known) (start .pre)
+    (sym (ap verdictReply (passed .enum-told .given .1)) ∙ checked .bind-verdict .ensures)
 
 same-length : tie.Need-same-length
 same-length c = search needs
@@ -40,9 +40,8 @@ returns c =
     let passed = plain .before .before in
     let checked = passed .before .before in
     let a = checked .before .before .before .before .before .args in
-    partly-plain (a .s) (lentWords (a .ranges .now) (a .range-count) (a .table .now) (a .count)) (a .operations .now) (a .r) (plain .if1 .taken)
-    ∙ bound-by (lentWords (a .ranges .now) (a .range-count) (a .table .now) (a .count)) (a .operations .now) (a .r) (a .s) (sym (ap verdictReply (passed .enum-told .given .1)) ∙ checked .bind-verdict .ensures)
-    ∙ ap (λ (f : ℕ). decided (purposeFor f (a .r .op)) (a .r) (lentWords (a .ranges .now) (a .range-count) (a .table .now) (a .count)) (a .operations .now)) (plain .if1 .taken)
+    cut-there (a .s) (lentWords (a .ranges .now) (a .range-count) (a .table .now) (a .count)) (a .operations .now) (a .r) (a .known) (plain .if1 .taken)
+    (sym (ap verdictReply (passed .enum-told .given .1)) ∙ checked .bind-verdict .ensures)
     ∙ cut .cut-table .ensures (a .ranges .now)
 
 same-length-3 : tie.Need-same-length-3
@@ -52,7 +51,8 @@ returns-2 : tie.Need-returns-2
 returns-2 c =
     let checked = c .before .before .before in
     let a = checked .before .before .before .before .before .args in
-    partly-refused (a .s) (lentWords (a .ranges .now) (a .range-count) (a .table .now) (a .count)) (a .operations .now) (a .r) (sym (ap verdictReply (c .before .w .given .1)) ∙ checked .bind-verdict .ensures)
+    refused-there (a .s) (lentWords (a .ranges .now) (a .range-count) (a .table .now) (a .count)) (a .operations .now) (a .r) (a .known)
+    (sym (ap verdictReply (c .before .w .given .1)) ∙ checked .bind-verdict .ensures)
 
 same-length-4 : tie.Need-same-length-4
 same-length-4 c = search needs
@@ -61,8 +61,10 @@ returns-3 : tie.Need-returns-3
 returns-3 c =
     let passed = c .before .before in
     let checked = passed .before .before in
-    let a = checked .before .before .before .before .before .args in
-    partly-passed (a .s) (lentWords (a .ranges .now) (a .range-count) (a .table .now) (a .count)) (a .operations .now) (a .r) (some (a .r .flags) (c .if1 .left)) (sym (ap verdictReply (passed .enum-told .given .1)) ∙ checked .bind-verdict .ensures)
+    let start = checked .before .before .before .before .before in
+    let a = start .args in
+    passed-there (a .s) (lentWords (a .ranges .now) (a .range-count) (a .table .now) (a .count)) (a .operations .now) (a .r) (a .known) (start .pre)
+    (some (a .r .flags) (c .if1 .left)) (sym (ap verdictReply (passed .enum-told .given .1)) ∙ checked .bind-verdict .ensures)
 
 pub bind-request-spec : {M : Type 1} → statement M
 bind-request-spec =

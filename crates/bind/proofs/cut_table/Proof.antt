@@ -7,7 +7,7 @@ use Rattle.bind.proofs.cut_table.Statement.{statement}
 use Rattle.bind.proofs.cut_table.Tie as tie
 
 change-requires : tie.Need-change-requires
-change-requires c κs = c .before .before .before .before .pre .ready
+change-requires c κs = search needs
 
 enum-told : tie.Need-enum-told
 enum-told c = search needs
@@ -27,9 +27,8 @@ same-length-2 c = search needs
 returns : tie.Need-returns
 returns c =
     let changed = c .before .before .before .before .before .before in
-    let start = changed .before .before .before .before .before in
-    let a = start .args in
-    λ rs. cuts-by (a .r) (lentWords rs (a .ranges) (a .table .now) (a .count)) (a .operations .now) (start .pre .fits) (rw (c .enum-told .given .1) at (changed .change .ensures))
+    let a = changed .before .before .before .before .before .args in
+    λ rs. cuts-by (a .r) (lentWords rs (a .ranges) (a .table .now) (a .count)) (a .operations .now) (rw (c .enum-told .given .1) at (changed .change .ensures))
 
 same-length-3 : tie.Need-same-length-3
 same-length-3 c = search needs
@@ -40,9 +39,8 @@ same-length-4 c = search needs
 returns-2 : tie.Need-returns-2
 returns-2 c =
     let changed = c .before .before .before .before .before .before in
-    let start = changed .before .before .before .before .before in
-    let a = start .args in
-    λ rs. cuts-by (a .r) (lentWords rs (a .ranges) (a .table .now) (a .count)) (a .operations .now) (start .pre .fits) (rw (c .enum-told2 .given .1) at (changed .change .ensures))
+    let a = changed .before .before .before .before .before .args in
+    λ rs. cuts-by (a .r) (lentWords rs (a .ranges) (a .table .now) (a .count)) (a .operations .now) (rw (c .enum-told2 .given .1) at (changed .change .ensures))
 
 same-length-5 : tie.Need-same-length-5
 same-length-5 c = search needs
@@ -53,9 +51,8 @@ same-length-6 c = search needs
 returns-3 : tie.Need-returns-3
 returns-3 c =
     let changed = c .before .before .before .before .before .before .before in
-    let start = changed .before .before .before .before .before in
-    let a = start .args in
-    λ rs. cuts-by (a .r) (lentWords rs (a .ranges) (a .table .now) (a .count)) (a .operations .now) (start .pre .fits) (rw (c .before .made .given .1) at (changed .change .ensures))
+    let a = changed .before .before .before .before .before .args in
+    λ rs. cuts-by (a .r) (lentWords rs (a .ranges) (a .table .now) (a .count)) (a .operations .now) (rw (c .before .made .given .1) at (changed .change .ensures))
 
 pub cut-table-spec : {M : Type 1} → statement M
 cut-table-spec =
