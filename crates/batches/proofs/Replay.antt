@@ -1,13 +1,17 @@
 -- The operations of a granted batch, replayed on the old table, are all taken and make the new table.
 -- Assumes nothing.
 use mathlib.Core.Path.{_≡_, refl, sym, ap, subst, _∙_}
+use mathlib.Core.Bool.{Bool}
 use mathlib.Core.Option.{Option, some, bind as Option·bind}
 use mathlib.Core.List.{List, [], _∷_, _++_, flatMap}
-use Prim.Native.Nat.{ℕ, _+_, _*_, _<_}
+use Prim.Native.Nat.{ℕ, zero, suc, _+_, _*_, _<_}
 use native.Mathlib.Omega.{arith}
+use lib.Dec.{eqb}
 use lib.ListN.{length, drop, length-append, length-drop}
+use borrow.Author.Tests.{ne-eqb}
 use Rattle.model.specs.Table.{mappings}
-use Rattle.model.specs.Cut.{new, after, operations, old, rests}
+use Rattle.model.specs.Rows.{choose}
+use Rattle.model.specs.Cut.{mappingOf, newFor, new, after, operations, old, rests}
 use Rattle.model.specs.Layout.{operationWords}
 use Rattle.model.specs.Calls.{Lent}
 use Rattle.model.specs.Exactly.{Each}
@@ -23,7 +27,7 @@ use Rattle.model.proofs.Ask.{Asked}
 use Rattle.model.proofs.Granted.{table-chain, relent}
 use Rattle.batches.specs.Prelude.{Space, Mapping, Request, Operation, Grant}
 use Rattle.batches.specs.Batch.{requestsIn, afterAll, operationsAll, batchGrant, BatchOutcome, bindBatch, lentAfterBatch}
-use Rattle.batches.specs.Grants.{ReplaysAll}
+use Rattle.batches.specs.Grants.{mapsAmong, ReplaysAll}
 use Rattle.batches.proofs.Batch.{Granting, may, fits, room}
 use Rattle.batches.proofs.Relent.{relent-mappings}
 
@@ -35,10 +39,17 @@ replays-all (r ∷ rs) ms z run =
     ∙ ap (λ (o : Option (List Mapping)). Option·bind o (replay (operationsAll rs (after r ms)))) (replays r ms (z .0) run)
     ∙ replays-all rs (after r ms) (z .1) (run-after r ms run (z .0))
 
+one-map : (r : Request) → length (new r) ≡ choose (eqb (r .op) 0) 1 0
+one-map r = go (r .op)
+  where
+    go : (n : ℕ) → length (newFor n (mappingOf r)) ≡ choose (eqb n 0) 1 0
+    go zero = refl
+    go (suc n) = sym (ap (λ (b : Bool). choose b 1 0) (ne-eqb (suc n) 0 (λ e. omega (arith, e))))
+
 -- the count rule, request by request
 counts-all : (rs : List Request) (ms : List Mapping) → Each (λ r. 0 < r .size) rs → Run 0 ms
-    → length (afterAll rs ms) + length (flatMap old (operationsAll rs ms)) ≡ length ms + length (flatMap rests (operationsAll rs ms)) + length (flatMap new rs)
-unfolding operationsAll afterAll flatMap
+    → length (afterAll rs ms) + length (flatMap old (operationsAll rs ms)) ≡ length ms + length (flatMap rests (operationsAll rs ms)) + mapsAmong rs
+unfolding operationsAll afterAll flatMap mapsAmong
 counts-all [] ms z run = omega arith
 counts-all (r ∷ rs) ms z run =
     let front = operations r ms in
@@ -48,7 +59,7 @@ counts-all (r ∷ rs) ms z run =
       arith,
       length-append (flatMap old front) (flatMap old behind),
       length-append (flatMap rests front) (flatMap rests behind),
-      length-append (new r) (flatMap new rs),
+      one-map r,
       count-rule r ms run (z .0),
       counts-all rs (after r ms) (z .1) (run-after r ms run (z .0)),
     ))

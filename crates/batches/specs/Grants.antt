@@ -1,7 +1,7 @@
 -- What a granted batch does: what its requests do one by one, and shorter batches in the same order; demand 2 and the
 -- operations replayed, of the whole.
-use Rattle.model.specs.Prelude.{_≡_, some, List, [], _∷_, _++_, map, flatMap, ℕ, _+_, _-_, _*_, _/_, _≤_, _<_, length, take, drop, replicate}
-use Rattle.model.specs.Calls.{Reply, refused, answered, stop, Table, mappings, new, old, rests, operationWords, recordBytes, bytes, Lent, bind, seeIn, lookup}
+use Rattle.model.specs.Prelude.{_≡_, some, List, [], _∷_, _++_, map, flatMap, ℕ, _+_, _-_, _*_, _/_, _≤_, _<_, eqb, length, take, drop, replicate}
+use Rattle.model.specs.Calls.{choose, Reply, refused, answered, stop, Table, mappings, old, rests, operationWords, recordBytes, bytes, Lent, bind, seeIn, lookup}
 use Rattle.model.specs.Exactly.{Each, TableRules}
 use Rattle.model.specs.Grants.{offMappings, shows, replay}
 use Rattle.model.specs.Demand3.{final, Everywhere, Call, answerTo, leftBy, IsGrant}
@@ -82,13 +82,18 @@ pub record EffectAll (s : Space) (rs : List Request) (l k : Lent) : Type 0 where
 
 -- ── the operations ──
 
+-- how many of the requests are maps
+unfoldable pub mapsAmong : List Request → ℕ
+mapsAmong [] = 0
+mapsAmong (r ∷ rs) = choose (eqb (r .op) 0) 1 0 + mapsAmong rs
+
 -- g is the grant, os the operations of all requests rs, lent and written what the operation slice holds before the call
 -- and after it
 pub record ReplaysAll (rs : List Request) (t u : Table) (os : List Operation) (lent written : List ℕ) (g : Grant) : Type 0 where
   pub replayed : replay os (mappings t) ≡ some (mappings u)
   pub number : g .operations ≡ length os
   -- count afterwards = count - hit + lower rests + upper rests + (1 for each map)
-  pub count : g .count + length (flatMap old os) ≡ t .count + length (flatMap rests os) + length (flatMap new rs)
+  pub count : g .count + length (flatMap old os) ≡ t .count + length (flatMap rests os) + mapsAmong rs
   pub words : (written ≡ flatMap operationWords os ++ drop (14 * g .operations) lent) × (length written ≡ length lent)
 
 -- ── of every granted batch ──
