@@ -51,7 +51,7 @@ module _ {r : Request} {ws : List ℕ} {lo hi : ℕ} (p : Placed r ws lo hi) (os
   number : {k : ℕ} → k ≡ hi - lo + length (mapped r) → length written-out ≡ k
   number f = length-operations r (between ws lo hi) ∙ rw (length-between ws lo hi, f)
 
-  pub fits-places : {k m : ℕ} → k ≡ hi - lo + length (mapped r) → k ≤ m / 14 → 14 * length written-out ≤ m
+  pub fits-places : {k m : ℕ} → k ≡ hi - lo + length (mapped r) → 14 * k ≤ m → 14 * length written-out ≤ m
   fits-places f h = omega (arith, number f, h)
 
   -- rows 11 and 16, by the count and the number
@@ -67,7 +67,7 @@ module _ {r : Request} {ws : List ℕ} {lo hi : ℕ} (p : Placed r ws lo hi) (os
       let q : leb (length (after r (mappingsIn n ws))) (length ws / 4) ≡ false = lt-leb (length (after r (mappingsIn n ws))) (length ws / 4) (omega (arith, counted, h)) in
       simp q
 
-  pub short : {k : ℕ} → count ≤ length ws / 4 → k ≡ hi - lo + length (mapped r) → length os / 14 < k
+  pub short : {k : ℕ} → count ≤ length ws / 4 → k ≡ hi - lo + length (mapped r) → length os < 14 * k
       → changed r (lent ws n) os ≡ record { reply = refused 16 0; table = ws; operations = os }
   unfolding changed decide
   short h f k =
@@ -75,7 +75,7 @@ module _ {r : Request} {ws : List ℕ} {lo hi : ℕ} (p : Placed r ws lo hi) (os
       lt-leb (14 * length (operations r (mappingsIn n ws))) (length os) (omega (arith, same-number, number f, k)) in
       simp (has-room h, w)
 
-  pub carried-out : {k : ℕ} {us vs : List ℕ} → count ≤ length ws / 4 → k ≡ hi - lo + length (mapped r) → k ≤ length os / 14
+  pub carried-out : {k : ℕ} {us vs : List ℕ} → count ≤ length ws / 4 → k ≡ hi - lo + length (mapped r) → 14 * k ≤ length os
       → us ≡ stored os 0 (flatMap operationWords (operationsFor r (between ws lo hi)))
       → vs ≡ written (length ws) (spliced (mappingsIn n ws) lo hi new)
       → changed r (lent ws n) os ≡ record { reply = answered (k, count); table = vs; operations = us }

@@ -58,7 +58,7 @@ pub fn change(r: Request, t: &mut [u64], count: usize, operations: &mut [u64]) -
         return ChangeAnswer::NoRoom;
     }
     let number = cut::operations_number(r, lo, hi);
-    if operations.len() / cut::OPERATION_WORDS < number {
+    if operations.len() < cut::OPERATION_WORDS * number {
         return ChangeAnswer::ShortOutput;
     }
     cut::write_operations(operations, t, r, lo, hi);

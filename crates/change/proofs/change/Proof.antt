@@ -2,6 +2,7 @@
 -- Assumes nothing.
 use native.Mathlib.Omega.{arith}
 use Rattle.model.specs.Table.{mappingsIn}
+use Rattle.model.proofs.New.{new-most}
 use Rattle.model.proofs.Store.{length-mappings}
 use Rattle.table.specs.Places.{endsBehind}
 use Rattle.table.proofs.First.{first-most}
@@ -82,6 +83,16 @@ operations-number-requires c κs =
     let start = low .before .before .before .before in
     let p = placed (start .pre) (low .first-ending-behind .ensures) (high .before .last-byte .ensures) (high .first-starting-behind .ensures) in
     (low-high p .0, omega (arith, low-high p, start .pre .table .held, start .good))
+
+mul-if2 : tie.Need-mul-if2
+mul-if2 c =
+    let counted = c .before .before in
+    let new = counted .before in
+    let high = new .before .before in
+    let low = high .before .before .before in
+    let start = low .before .before .before .before in
+    let p = placed (start .pre) (low .first-ending-behind .ensures) (high .before .last-byte .ensures) (high .first-starting-behind .ensures) in
+    omega (arith, c .operations-number .ensures, low-high p, start .pre .table .held, start .good, new-most (start .args .r))
 
 same-length-2 : tie.Need-same-length-2
 same-length-2 c = search needs
@@ -168,6 +179,7 @@ change-spec =
     same-length
     returns
     operations-number-requires
+    mul-if2
     same-length-2
     returns-2
     write-operations-requires
