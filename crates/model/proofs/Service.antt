@@ -1,6 +1,6 @@
--- Any service of requests: what demand 3 says of it, and what it must show for that. A service that is added later (a
--- batch of requests in a call, a pool of clients, a table of joined mappings) gives a Service of its own, and shows
--- StateLaws and CallLaws; ByRows is a short way to CallLaws.
+-- Any service of requests: what demand 3 says of it, and what it must show for that. Another service (one with batches
+-- of requests, in the crate `batches`; a pool of clients, a table of joined mappings) gives a Service of its own, and
+-- shows StateLaws and CallLaws; ByRows is a short way to CallLaws.
 -- Assumes nothing.
 use mathlib.Core.Path.{_≡_}
 use mathlib.Core.Logic.{_⊎_}

@@ -81,7 +81,8 @@ pub record Lent : Type 0 where
   pub table : Table
   pub ranges : RangeList
 
--- what every call on them asks: 1, 2, what the call has between (a request 3, a look-up nothing), 4, 5, 17, 18
+-- what every call on them asks: 1, 2, what the call has between (a request 3, a batch 3 and 15, a look-up nothing), 4, 5,
+-- 17, 18
 unfoldable pub lentRows : Space → List Row → Lent → List Row
 lentRows s between l = tableRows s between (l .table) ++ listRow s (l .ranges) ∷ []
 

@@ -71,7 +71,7 @@ staleRow t = row 17 (zeroTests (drop (4 * t .count) (t .words)))
 abbrev pub contentRows : Space → Table → List Row
 contentRows s t = countRow t ∷ mappingsRow s t ∷ staleRow t ∷ []
 
--- a table's part of the rows of every call on one: 1, 2, what the call has between (a request 3, a look-up nothing), 4,
--- 5, 17
+-- a table's part of the rows of every call on one: 1, 2, what the call has between (a request 3, a batch 3 and 15, a
+-- look-up nothing), 4, 5, 17
 unfoldable pub tableRows : Space → List Row → Table → List Row
 tableRows s between t = spaceRow s ∷ lengthRow t ∷ (between ++ contentRows s t)
