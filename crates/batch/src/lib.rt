@@ -1,6 +1,6 @@
 // The public call for a whole array of requests (document 02, Item 2): all are granted, or none. The table and the list are
-// checked once; each request then goes to `bind` on a table that is known to pass, which a grant leaves so for the next one. What the
-// table held before stands in the work table, and is put back where a request is refused.
+// checked once; each request then goes to `bind` on a table that is known to pass, which a grant leaves so for the next
+// one. What the table held before stands in the work table, and is put back where a request is refused.
 use batches::BatchAnswer;
 use model::Answer;
 use model::Decoded;

@@ -4,6 +4,7 @@ use bind::Numbers;
 use model::Answer;
 use model::Decoded;
 use model::Found;
+use model::Grant;
 use model::Range;
 use model::Refusal;
 use model::Request;
@@ -12,7 +13,7 @@ use model::Space;
 use model::Verdict;
 ghost use mathlib.Core.Path.{_≡_};
 ghost use mathlib.Core.List.{_∷_};
-ghost use Rattle.model.specs.Rows.{verdict};
+ghost use Rattle.model.specs.Rows.{refused, answered, verdict};
 ghost use Rattle.model.specs.Rules.{spaceRow, requestRows};
 ghost use Rattle.model.specs.Calls.{numberOf, verdictReply, answerReply, foundReply, spaceOf, bytes, checkRequest, bind, lookup};
 ghost use Rattle.batches.specs.Batch.{bindBatch, batchReply};
@@ -184,25 +185,46 @@ pub extern "C" fn waylluqen_lookup(
     ))
 }
 
+// A refusal in words: the counts are as they were.
+fn refused_words(number: u32, place: usize, count: u64, ranges: u64) -> AnswerWords
+    ensures { λ r. ⌜ r ≡ answerOf count ranges (refused number place) ⌝ }
+{
+    AnswerWords {
+        refusal: number as u64,
+        place: place as u64,
+        operations: 0,
+        count: count,
+        ranges: ranges,
+    }
+}
+
+// A grant in words: the counts before the call play no part.
+fn granted_words(g: Grant) -> AnswerWords
+    ensures { λ r. ⌜ r ≡ answerOf 0 0 (answered g) ⌝ }
+{
+    AnswerWords {
+        refusal: 0,
+        place: 0,
+        operations: g.operations as u64,
+        count: g.count as u64,
+        ranges: g.ranges as u64,
+    }
+}
+
 // An answer in words, on a table of `count` mappings and a list of `ranges` ranges.
 fn answer_words(a: Answer, count: u64, ranges: u64) -> AnswerWords
     ensures { λ r. ⌜ r ≡ answerOf count ranges (answerReply a) ⌝ }
 {
     match a {
-        Answer::Refused(w) => AnswerWords {
-            refusal: rules::refusal_number(w) as u64,
-            place: rules::refusal_place(w) as u64,
-            operations: 0,
-            count: count,
-            ranges: ranges,
-        },
-        Answer::Granted(g) => AnswerWords {
-            refusal: 0,
-            place: 0,
-            operations: g.operations as u64,
-            count: g.count as u64,
-            ranges: g.ranges as u64,
-        },
+        Answer::Refused(w) => {
+            refused_words(
+                rules::refusal_number(w),
+                rules::refusal_place(w),
+                count,
+                ranges,
+            )
+        }
+        Answer::Granted(g) => granted_words(g),
     }
 }
 
@@ -275,20 +297,8 @@ fn batch_words(a: BatchAnswer, count: u64, ranges: u64) -> AnswerWords
     ensures { λ r. ⌜ r ≡ answerOf count ranges (batchReply a) ⌝ }
 {
     match a {
-        BatchAnswer::Refused(number, place) => AnswerWords {
-            refusal: number as u64,
-            place: place as u64,
-            operations: 0,
-            count: count,
-            ranges: ranges,
-        },
-        BatchAnswer::Granted(g) => AnswerWords {
-            refusal: 0,
-            place: 0,
-            operations: g.operations as u64,
-            count: g.count as u64,
-            ranges: g.ranges as u64,
-        },
+        BatchAnswer::Refused(number, place) => refused_words(number, place, count, ranges),
+        BatchAnswer::Granted(g) => granted_words(g),
     }
 }
 

@@ -10,20 +10,23 @@ enum-known-a c = search needs
 refusal-number-requires : tie.Need-refusal-number-requires
 refusal-number-requires c κs = search needs
 
-cast-t8 : tie.Need-cast-t8
-cast-t8 c = search needs
-
 refusal-place-requires : tie.Need-refusal-place-requires
 refusal-place-requires c κs = search needs
+
+refused-words-requires : tie.Need-refused-words-requires
+refused-words-requires c κs = search needs
 
 enum-known-a-2 : tie.Need-enum-known-a-2
 enum-known-a-2 c = search needs
 
+granted-words-requires : tie.Need-granted-words-requires
+granted-words-requires c κs = search needs
+
 returns : tie.Need-returns
-returns c = rw (c .before .refusal-number .ensures, c .refusal-place .ensures, c .before .before .before .a .given .1)
+returns c = rw (c .refused-words .ensures, c .before .before .refusal-number .ensures, c .before .refusal-place .ensures, c .before .before .before .before .a .given .1)
 
 returns-2 : tie.Need-returns-2
-returns-2 c = rw (c .before .a2 .given .1)
+returns-2 c = rw (c .granted-words .ensures, c .before .before .a2 .given .1)
 
 pub answer-words-spec : {M : Type 1} → statement M
 answer-words-spec =
@@ -31,8 +34,9 @@ answer-words-spec =
     (tie.spec
     enum-known-a
     refusal-number-requires
-    cast-t8
     refusal-place-requires
+    refused-words-requires
     enum-known-a-2
+    granted-words-requires
     returns
     returns-2)

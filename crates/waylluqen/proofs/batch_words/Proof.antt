@@ -7,17 +7,28 @@ use Rattle.waylluqen.proofs.batch_words.Tie as tie
 enum-known-a : tie.Need-enum-known-a
 enum-known-a c = search needs
 
-cast-t8 : tie.Need-cast-t8
-cast-t8 c = search needs
+refused-words-requires : tie.Need-refused-words-requires
+refused-words-requires c κs = search needs
 
 enum-known-a-2 : tie.Need-enum-known-a-2
 enum-known-a-2 c = search needs
 
+granted-words-requires : tie.Need-granted-words-requires
+granted-words-requires c κs = search needs
+
 returns : tie.Need-returns
-returns c = rw (c .before .a .given .1)
+returns c = rw (c .refused-words .ensures, c .before .before .a .given .1)
 
 returns-2 : tie.Need-returns-2
-returns-2 c = rw (c .before .a2 .given .1)
+returns-2 c = rw (c .granted-words .ensures, c .before .before .a2 .given .1)
 
 pub batch-words-spec : {M : Type 1} → statement M
-batch-words-spec = tie.close (tie.spec enum-known-a cast-t8 enum-known-a-2 returns returns-2)
+batch-words-spec =
+    tie.close
+    (tie.spec
+    enum-known-a
+    refused-words-requires
+    enum-known-a-2
+    granted-words-requires
+    returns
+    returns-2)
