@@ -20,8 +20,8 @@ use Rattle.model.proofs.Store.{length-mappings}
 use Rattle.model.proofs.Granted.{Good}
 use Rattle.batches.proofs.Relent.{relent-same}
 use Rattle.batches.specs.Batch.{requestsIn, batchRow, workRow, batchRows, turnsRows, batchGrant, BatchOutcome, batchOutcome, turns, bindBatch}
-use Rattle.bind.specs.Bound.{Checked}
-use Rattle.bind.proofs.Checked.{checked-of}
+use Rattle.request.specs.Bound.{Checked}
+use Rattle.request.proofs.Checked.{checked-of}
 use Rattle.change.specs.Change.{Changed}
 use Rattle.batch.specs.Turns.{turned, committing, committed}
 use Rattle.batch.proofs.Turned.{madeAll, Whole, Is, turned-is}

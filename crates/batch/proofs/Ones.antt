@@ -28,8 +28,8 @@ use Rattle.batches.specs.Batch.{turnRows}
 use Rattle.table.specs.Places.{lent}
 use Rattle.table.proofs.Places.{valid-chain}
 use Rattle.change.specs.Change.{Changed, changedFor, made, roomRows}
-use Rattle.bind.specs.Bound.{Checked, boundKnown}
-use Rattle.bind.proofs.Lasts.{withList, besideList, list-beside}
+use Rattle.request.specs.Bound.{Checked, boundKnown}
+use Rattle.request.proofs.Lasts.{withList, besideList, list-beside}
 use Rattle.batch.specs.Turns.{one, madeOf}
 
 -- ── by what the record says ──

@@ -15,7 +15,7 @@ use Rattle.model.specs.Calls.{requestOf}
 use Rattle.batches.specs.Batch.{recordsIn, requestsIn}
 use Rattle.table.specs.Places.{lent}
 use Rattle.change.specs.Change.{Changed}
-use Rattle.bind.specs.Bound.{Checked}
+use Rattle.request.specs.Bound.{Checked}
 use Rattle.batch.specs.Turns.{one, more, behind, next, turned}
 use Rattle.batch.proofs.Ones.{Kept, kept}
 

@@ -1,5 +1,5 @@
 // The public call for a whole array of requests (document 02, Item 2): all are granted, or none. The table and the list are
-// checked once; each request then goes to `bind` on a table that is known to pass, which a grant leaves so for the next
+// checked once; each request then goes to `request` on a table that is known to pass, which a grant leaves so for the next
 // one. What the table held before stands in the work table, and is put back where a request is refused.
 use batches::BatchAnswer;
 use model::Answer;
@@ -16,7 +16,7 @@ ghost use Rattle.model.specs.Table.{operationsRow, tableRows};
 ghost use Rattle.model.specs.Calls.{requestOf, lentRows, verdictReply, answerReply};
 ghost use Rattle.batches.specs.Batch.{requestsIn, batchRow, workRow, bindBatch, batchReply};
 ghost use Rattle.table.specs.Places.{lent};
-ghost use Rattle.bind.specs.Bound.{lentWords, Checked};
+ghost use Rattle.request.specs.Bound.{lentWords, Checked};
 ghost use Rattle.batch.specs.Turns.{one, madeOf, turned, turnsReply, committed};
 
 const MOST_RECORDS: usize = 64;
@@ -45,7 +45,7 @@ fn table_verdict(
 ) -> Verdict
     ensures { λ v. ⌜ verdictReply v ≡ verdict (tableRows s (operationsRow «operation_words» (lent (now (table .entry)) count) ∷ workRow «work_words» (lent (now (table .entry)) count) ∷ []) (lent (now (table .entry)) count)) ⌝ }
 {
-    match bind::lengths_verdict(s, table, operation_words) {
+    match request::lengths_verdict(s, table, operation_words) {
         Verdict::Refuse(w) => Verdict::Refuse(w),
         Verdict::Pass => {
             if work_words != table.len() {
@@ -70,7 +70,7 @@ fn lent_verdict(
 {
     match table_verdict(s, table, count, work_words, operation_words) {
         Verdict::Refuse(w) => Verdict::Refuse(w),
-        Verdict::Pass => bind::list_verdict(s, ranges, range_count),
+        Verdict::Pass => request::list_verdict(s, ranges, range_count),
     }
 }
 
@@ -90,7 +90,7 @@ fn turn(
 {
     match record::decode(record, 0) {
         Decoded::Refuse(w) => Answer::Refused(w),
-        Decoded::Record(r) => bind::bind_request(
+        Decoded::Record(r) => request::bind_request(
             true,
             s,
             ranges,

@@ -1,5 +1,2 @@
 pub mod Binds
-pub mod Checked
-pub mod Lasts
 pub mod Lookups
-pub mod Requested

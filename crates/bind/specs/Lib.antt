@@ -1,1 +1,1 @@
-pub mod Bound
+pub mod Asked

@@ -16,7 +16,7 @@ use Rattle.model.specs.Rules.{spaceTests}
 use Rattle.model.specs.Calls.{bytes, bind, lookup, answerReply, foundReply}
 use Rattle.program.specs.Script.{recordAt, recordSize, State, emptied, granted, shows, refusal, toldBy, afterBind, requestIn, stepOn, step}
 use Rattle.program.proofs.Records.{record-fits}
-use Rattle.bind.specs.Bound.{lentWords}
+use Rattle.request.specs.Bound.{lentWords}
 use Rattle.words.specs.Words.{stored, cleared}
 use Rattle.words.proofs.Stored.{cleared-stored}
 use Rattle.script.specs.declared.Stepped.{Stepped}

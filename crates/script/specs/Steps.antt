@@ -5,7 +5,7 @@ use mathlib.Core.List.{List}
 use Prim.Native.Nat.{ℕ}
 use Rattle.model.specs.declared.Space.{Space}
 use Rattle.program.specs.Script.{State, Step, responseTold}
-use Rattle.bind.specs.Bound.{lentWords}
+use Rattle.request.specs.Bound.{lentWords}
 use Rattle.script.specs.declared.Stepped.{Stepped}
 
 -- a space, the list's words and count, the table's, and the words for operations

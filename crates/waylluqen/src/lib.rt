@@ -18,7 +18,8 @@ ghost use Rattle.model.specs.Rules.{spaceRow, requestRows};
 ghost use Rattle.model.specs.Calls.{numberOf, verdictReply, answerReply, foundReply, spaceOf, bytes, checkRequest, bind, lookup};
 ghost use Rattle.batches.specs.Batch.{bindBatch, batchReply};
 ghost use Rattle.waylluqen.specs.Words.{shownWords, translationOf, answerOf, left, batchLeft};
-ghost use Rattle.bind.specs.Bound.{lentWords, numbersOf};
+ghost use Rattle.request.specs.Bound.{lentWords};
+ghost use Rattle.bind.specs.Asked.{numbersOf};
 
 // A space, as C hands it over.
 #[repr(C)]

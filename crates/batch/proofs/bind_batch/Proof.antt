@@ -4,7 +4,7 @@ use mathlib.Core.Path.{_≡_, refl, sym, ap, ap₂, _∙_}
 use Rattle.model.specs.Rows.{refused}
 use Rattle.model.specs.Calls.{verdictReply}
 use Rattle.rules.proofs.Laws.{held, failed}
-use Rattle.bind.specs.Bound.{lentWords}
+use Rattle.request.specs.Bound.{lentWords}
 use Rattle.batch.proofs.Batched.{not-records, not-taken, checked, as-long, batch-is}
 use borrow.Author.Needs.{needs}
 use Rattle.batch.proofs.bind_batch.Statement.{statement}

@@ -6,8 +6,8 @@ use Rattle.model.specs.Table.{operationsRow}
 use Rattle.model.specs.Calls.{verdictReply}
 use Rattle.batches.specs.Batch.{workRow}
 use Rattle.table.specs.Places.{lent}
-use Rattle.bind.specs.Bound.{lentWords}
-use Rattle.bind.proofs.Checked.{space-held, lent-by}
+use Rattle.request.specs.Bound.{lentWords}
+use Rattle.request.proofs.Checked.{space-held, lent-by}
 use borrow.Author.Needs.{needs}
 use Rattle.batch.proofs.lent_verdict.Statement.{statement}
 use Rattle.batch.proofs.lent_verdict.Tie as tie

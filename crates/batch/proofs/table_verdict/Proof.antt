@@ -6,8 +6,8 @@ use Rattle.model.specs.Table.{contentRows}
 use Rattle.model.specs.Calls.{verdictReply}
 use Rattle.batches.specs.Batch.{workRow}
 use Rattle.table.specs.Places.{lent}
-use Rattle.bind.specs.Bound.{lentWords}
-use Rattle.bind.proofs.Checked.{lengths-held, table-by}
+use Rattle.request.specs.Bound.{lentWords}
+use Rattle.request.proofs.Checked.{lengths-held, table-by}
 use Rattle.batch.proofs.Verdicts.{work-refused, work-passed}
 use borrow.Author.Needs.{needs}
 use Rattle.batch.proofs.table_verdict.Statement.{statement}

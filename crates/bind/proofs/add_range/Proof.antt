@@ -1,9 +1,9 @@
 -- `bind::add_range` meets its contract.
 -- Assumes nothing.
 use native.Mathlib.Omega.{arith}
-use Rattle.bind.specs.Bound.{lentWords}
+use Rattle.request.specs.Bound.{lentWords}
 use Rattle.ranges.proofs.Places.{valid-held}
-use Rattle.bind.proofs.Lasts.{adds-refused, adds-granted}
+use Rattle.request.proofs.Lasts.{adds-refused, adds-granted}
 use borrow.Author.Needs.{needs}
 use Rattle.bind.proofs.add_range.Statement.{statement}
 use Rattle.bind.proofs.add_range.Tie as tie

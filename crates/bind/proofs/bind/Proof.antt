@@ -3,7 +3,7 @@
 use mathlib.Core.Path.{sym, ap, subst, _∙_}
 use lib.Dec.{T}
 use Rattle.model.specs.Calls.{verdictReply}
-use Rattle.bind.specs.Bound.{lentWords}
+use Rattle.request.specs.Bound.{lentWords}
 use Rattle.bind.proofs.Binds.{bind-by}
 use borrow.Author.Needs.{needs}
 use Rattle.bind.proofs.bind.Statement.{statement}

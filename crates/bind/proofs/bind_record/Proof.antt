@@ -3,8 +3,9 @@
 use mathlib.Core.Path.{sym, ap, subst, _∙_}
 use lib.Dec.{T}
 use Rattle.model.specs.Calls.{decodedReply}
-use Rattle.bind.specs.Bound.{lentWords}
-use Rattle.bind.proofs.Binds.{bind-record-by, some, partly-plain, relistable-there, bound-is}
+use Rattle.request.specs.Bound.{lentWords}
+use Rattle.request.proofs.Bound.{some, partly-plain, relistable-there, bound-is}
+use Rattle.bind.proofs.Binds.{bind-record-by}
 use borrow.Author.Needs.{needs}
 use Rattle.bind.proofs.bind_record.Statement.{statement}
 use Rattle.bind.proofs.bind_record.Tie as tie

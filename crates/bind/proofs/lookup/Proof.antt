@@ -2,8 +2,8 @@
 -- Assumes nothing.
 use mathlib.Core.Path.{sym, ap, _∙_}
 use Rattle.model.specs.Calls.{verdictReply}
-use Rattle.bind.specs.Bound.{lentWords}
-use Rattle.bind.proofs.Checked.{valid, valid-ranges}
+use Rattle.request.specs.Bound.{lentWords}
+use Rattle.request.proofs.Checked.{valid, valid-ranges}
 use Rattle.bind.proofs.Lookups.{lookup-refused, lookup-shows}
 use borrow.Author.Needs.{needs}
 use Rattle.bind.proofs.lookup.Statement.{statement}

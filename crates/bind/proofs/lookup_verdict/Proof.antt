@@ -10,8 +10,8 @@ use Rattle.model.specs.Rows.{verdict}
 use Rattle.model.specs.Ranges.{listRow}
 use Rattle.ranges.specs.Lists.{lentList}
 use Rattle.model.specs.Calls.{verdictReply}
-use Rattle.bind.specs.Bound.{lentWords}
-use Rattle.bind.proofs.Checked.{space-held, lent-by}
+use Rattle.request.specs.Bound.{lentWords}
+use Rattle.request.proofs.Checked.{space-held, lent-by}
 use borrow.Author.Needs.{needs}
 use Rattle.bind.proofs.lookup_verdict.Statement.{statement}
 use Rattle.bind.proofs.lookup_verdict.Tie as tie

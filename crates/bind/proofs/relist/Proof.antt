@@ -4,8 +4,8 @@ use mathlib.Core.Path.{ap, _∙_}
 use Rattle.model.specs.declared.Grant.{Grant}
 use Rattle.model.specs.Rows.{Reply}
 use Rattle.model.specs.Calls.{Purpose, purpose, answerReply}
-use Rattle.bind.specs.Bound.{lentWords, then, decided}
-use Rattle.bind.proofs.Lasts.{for-adding, for-removing}
+use Rattle.request.specs.Bound.{lentWords, then, decided}
+use Rattle.request.proofs.Lasts.{for-adding, for-removing}
 use borrow.Author.Needs.{needs}
 use Rattle.bind.proofs.relist.Statement.{statement}
 use Rattle.bind.proofs.relist.Tie as tie

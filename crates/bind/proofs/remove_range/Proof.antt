@@ -2,8 +2,8 @@
 -- Assumes nothing.
 use mathlib.Core.Path.{sym, _∙_}
 use borrow.Author.Tests.{not-true, not-false}
-use Rattle.bind.specs.Bound.{lentWords}
-use Rattle.bind.proofs.Lasts.{removed-some, removes-mapped, removes-refused, removes-granted}
+use Rattle.request.specs.Bound.{lentWords}
+use Rattle.request.proofs.Lasts.{removed-some, removes-mapped, removes-refused, removes-granted}
 use Rattle.model.specs.Calls.{rangeOf}
 use Rattle.ranges.specs.Lists.{lentList}
 use borrow.Author.Needs.{needs}

@@ -24,7 +24,7 @@ use Rattle.model.proofs.Relisted.{insert-length, remove-length}
 use Rattle.table.specs.Places.{freeTests}
 use Rattle.ranges.specs.Changes.{ListOutcome, overlapRow, fullRow, added, removed}
 use Rattle.change.specs.Change.{Changed, changedFor, made, roomRows, changed}
-use Rattle.bind.specs.Bound.{decided, cutting}
+use Rattle.request.specs.Bound.{decided, cutting}
 
 -- ── without the flag ──
 

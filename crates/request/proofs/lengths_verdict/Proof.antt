@@ -1,10 +1,10 @@
--- `bind::lengths_verdict` meets its contract.
+-- `request::lengths_verdict` meets its contract.
 -- Assumes nothing.
 use Rattle.model.specs.Rows.{decide}
 use Rattle.rules.proofs.Laws.{held, failed}
 use borrow.Author.Needs.{needs}
-use Rattle.bind.proofs.lengths_verdict.Statement.{statement}
-use Rattle.bind.proofs.lengths_verdict.Tie as tie
+use Rattle.request.proofs.lengths_verdict.Statement.{statement}
+use Rattle.request.proofs.lengths_verdict.Tie as tie
 
 space-keeps-rules-requires : tie.Need-space-keeps-rules-requires
 space-keeps-rules-requires c κs = search needs

@@ -1,4 +1,4 @@
--- `bind::lent_verdict` meets its contract.
+-- `request::lent_verdict` meets its contract.
 -- Assumes nothing.
 use mathlib.Core.Path.{_≡_, refl, sym, ap, subst, _∙_}
 use mathlib.Core.List.{List, [], _∷_}
@@ -11,11 +11,11 @@ use Rattle.model.specs.Rows.{verdict}
 use Rattle.model.specs.Ranges.{listRow}
 use Rattle.ranges.specs.Lists.{lentList}
 use Rattle.model.specs.Calls.{verdictReply}
-use Rattle.bind.specs.Bound.{lentWords}
-use Rattle.bind.proofs.Checked.{space-held, lent-by}
+use Rattle.request.specs.Bound.{lentWords}
+use Rattle.request.proofs.Checked.{space-held, lent-by}
 use borrow.Author.Needs.{needs}
-use Rattle.bind.proofs.lent_verdict.Statement.{statement}
-use Rattle.bind.proofs.lent_verdict.Tie as tie
+use Rattle.request.proofs.lent_verdict.Statement.{statement}
+use Rattle.request.proofs.lent_verdict.Tie as tie
 
 table-verdict-requires : tie.Need-table-verdict-requires
 table-verdict-requires c κs = search needs

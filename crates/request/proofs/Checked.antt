@@ -26,7 +26,7 @@ use Rattle.table.specs.Places.{ValidIn}
 use Rattle.change.specs.Change.{Ready}
 use Rattle.ranges.specs.Lists.{lentList, ValidList}
 use Rattle.ranges.proofs.Fits.{empty-decides}
-use Rattle.bind.specs.Bound.{lengthRows, checkedRows, frontRows, Checked, Relistable}
+use Rattle.request.specs.Bound.{lengthRows, checkedRows, frontRows, Checked, Relistable}
 
 -- a map's offset and size end by 2^48, and any other request has no offset
 offset-most : {s : Space} (r : Request) → RequestPassed s r → r .offset ≤ limit

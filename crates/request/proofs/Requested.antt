@@ -3,7 +3,7 @@
 -- Assumes nothing.
 use mathlib.Core.Path.{_≡_, refl, sym, ap, _∙_}
 use mathlib.Core.Bool.{Bool, true, false}
-use mathlib.Core.List.{List, _++_}
+use mathlib.Core.List.{List}
 use Prim.Native.Nat.{ℕ, _<_}
 use native.Mathlib.Omega.{arith}
 use lib.ListN.{length}
@@ -15,10 +15,10 @@ use Rattle.model.specs.Rules.{requestRows}
 use Rattle.model.specs.Calls.{Lent, cuts, purposeFor, cutGrant, untouched, outcomeFor}
 use Rattle.model.proofs.Rows.{andThen, decide-append}
 use Rattle.change.specs.Change.{Ready, roomRows}
-use Rattle.bind.specs.Bound.{frontRows, Checked, decided, cutting, boundKnown, requested}
-use Rattle.bind.proofs.Checked.{ready, fits, ready-known}
-use Rattle.bind.proofs.Binds.{pass, bound-by, partly-plain, partly-passed, partly-refused}
-use Rattle.bind.proofs.Lasts.{fits-settled}
+use Rattle.request.specs.Bound.{frontRows, Checked, decided, cutting, boundKnown, requested}
+use Rattle.request.proofs.Checked.{ready, fits, ready-known}
+use Rattle.request.proofs.Bound.{pass, bound-by, partly-plain, partly-passed, partly-refused}
+use Rattle.request.proofs.Lasts.{fits-settled}
 
 module _ (s : Space) (l : Lent) (os : List ℕ) (r : Request) where
   -- rows 6 to 10, and then 11 and 16

@@ -1,15 +1,15 @@
--- `bind::bind_verdict` meets its contract.
+-- `request::bind_verdict` meets its contract.
 -- Assumes nothing.
 use mathlib.Core.Path.{sym, ap, subst, _∙_}
 use mathlib.Core.Logic.{inl, inr}
 use lib.Dec.{T}
 use borrow.Author.Tests.{not-true, not-false}
 use Rattle.model.specs.Calls.{verdictReply}
-use Rattle.bind.specs.Bound.{lentWords}
-use Rattle.bind.proofs.Checked.{front-refused, front-by}
+use Rattle.request.specs.Bound.{lentWords}
+use Rattle.request.proofs.Checked.{front-refused, front-by}
 use borrow.Author.Needs.{needs}
-use Rattle.bind.proofs.bind_verdict.Statement.{statement}
-use Rattle.bind.proofs.bind_verdict.Tie as tie
+use Rattle.request.proofs.bind_verdict.Statement.{statement}
+use Rattle.request.proofs.bind_verdict.Tie as tie
 
 lent-verdict-requires : tie.Need-lent-verdict-requires
 lent-verdict-requires c κs = search needs

@@ -9,21 +9,16 @@ use Rattle.model.specs.declared.Space.{Space}
 use Rattle.model.specs.Rows.{Row, Reply, refused, answered, decide}
 use Rattle.model.specs.Rules.{limit, stop, spaceTests, spaceRow, requestRows}
 use Rattle.model.specs.Table.{Table, lengthRow, operationsRow}
-use Rattle.model.specs.Calls.{Asking, numbers, Lent, lentRows, Purpose, cuts, purpose, lastRows, cutGrant, grantFor, Outcome, untouched, outcomeFor}
+use Rattle.model.specs.Calls.{Lent, lentRows, Purpose, cuts, purpose, lastRows, cutGrant, grantFor, Outcome, untouched, outcomeFor}
 use Rattle.model.proofs.Tests.{Alls}
 use Rattle.words.specs.Words.{ZeroFrom}
 use Rattle.table.specs.Places.{lent, Valid, ValidIn}
 use Rattle.ranges.specs.Lists.{lentList, ValidList}
 use Rattle.change.specs.Change.{roomRows}
-use Rattle.bind.specs.declared.Numbers.{Numbers}
 
 -- a list of sparse ranges and a table in lent slices of words, each with its count
 abbrev pub lentWords : List ℕ → ℕ → List ℕ → ℕ → Lent
 lentWords rs n ws count = record { table = lent ws count; ranges = lentList rs n }
-
--- a request by its numbers, as it comes
-abbrev pub numbersOf : Numbers → Asking
-numbersOf q = numbers (q .op) (q .address) (q .size) (q .object) (q .offset)
 
 -- the rows 1, 2 and 3 of a table in the words ws, with n words lent for operations
 abbrev pub lengthRows : Space → ℕ → List ℕ → List Row

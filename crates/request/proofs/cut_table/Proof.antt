@@ -1,10 +1,10 @@
--- `bind::cut_table` meets its contract.
+-- `request::cut_table` meets its contract.
 -- Assumes nothing.
-use Rattle.bind.specs.Bound.{lentWords}
-use Rattle.bind.proofs.Lasts.{cuts-by}
+use Rattle.request.specs.Bound.{lentWords}
+use Rattle.request.proofs.Lasts.{cuts-by}
 use borrow.Author.Needs.{needs}
-use Rattle.bind.proofs.cut_table.Statement.{statement}
-use Rattle.bind.proofs.cut_table.Tie as tie
+use Rattle.request.proofs.cut_table.Statement.{statement}
+use Rattle.request.proofs.cut_table.Tie as tie
 
 change-requires : tie.Need-change-requires
 change-requires c κs = search needs

@@ -1,13 +1,13 @@
--- `bind::bind_request` meets its contract.
+-- `request::bind_request` meets its contract.
 -- Assumes nothing.
 use mathlib.Core.Path.{sym, ap, _∙_}
 use Rattle.model.specs.Calls.{verdictReply}
-use Rattle.bind.specs.Bound.{lentWords}
-use Rattle.bind.proofs.Binds.{some}
-use Rattle.bind.proofs.Requested.{ready-there, refused-there, cut-there, passed-there}
+use Rattle.request.specs.Bound.{lentWords}
+use Rattle.request.proofs.Bound.{some}
+use Rattle.request.proofs.Requested.{ready-there, refused-there, cut-there, passed-there}
 use borrow.Author.Needs.{needs}
-use Rattle.bind.proofs.bind_request.Statement.{statement}
-use Rattle.bind.proofs.bind_request.Tie as tie
+use Rattle.request.proofs.bind_request.Statement.{statement}
+use Rattle.request.proofs.bind_request.Tie as tie
 
 bind-verdict-requires : tie.Need-bind-verdict-requires
 bind-verdict-requires c κs = search needs

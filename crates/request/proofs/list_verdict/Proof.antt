@@ -1,10 +1,10 @@
--- `bind::list_verdict` meets its contract.
+-- `request::list_verdict` meets its contract.
 -- Assumes nothing.
 use Rattle.model.specs.Rows.{decide}
 use Rattle.rules.proofs.Laws.{held, failed}
 use borrow.Author.Needs.{needs}
-use Rattle.bind.proofs.list_verdict.Statement.{statement}
-use Rattle.bind.proofs.list_verdict.Tie as tie
+use Rattle.request.proofs.list_verdict.Statement.{statement}
+use Rattle.request.proofs.list_verdict.Tie as tie
 
 keeps-rules-requires : tie.Need-keeps-rules-requires
 keeps-rules-requires c κs = search needs

@@ -1,13 +1,13 @@
--- `bind::table_verdict` meets its contract.
+-- `request::table_verdict` meets its contract.
 -- Assumes nothing.
 use mathlib.Core.Path.{refl, sym, ap, _∙_}
 use mathlib.Core.List.{[]}
 use Rattle.model.specs.Calls.{verdictReply}
-use Rattle.bind.specs.Bound.{lentWords}
-use Rattle.bind.proofs.Checked.{lengths-held, table-by}
+use Rattle.request.specs.Bound.{lentWords}
+use Rattle.request.proofs.Checked.{lengths-held, table-by}
 use borrow.Author.Needs.{needs}
-use Rattle.bind.proofs.table_verdict.Statement.{statement}
-use Rattle.bind.proofs.table_verdict.Tie as tie
+use Rattle.request.proofs.table_verdict.Statement.{statement}
+use Rattle.request.proofs.table_verdict.Tie as tie
 
 lengths-verdict-requires : tie.Need-lengths-verdict-requires
 lengths-verdict-requires c κs = search needs

@@ -1,8 +1,8 @@
--- `bind::is_none` meets its contract.
+-- `request::is_none` meets its contract.
 -- Assumes nothing.
-use Rattle.bind.proofs.Checked.{none-listed}
-use Rattle.bind.proofs.is_none.Statement.{statement}
-use Rattle.bind.proofs.is_none.Tie as tie
+use Rattle.request.proofs.Checked.{none-listed}
+use Rattle.request.proofs.is_none.Statement.{statement}
+use Rattle.request.proofs.is_none.Tie as tie
 
 returns : tie.Need-returns
 returns c = let a = c .args in λ e. none-listed (a .ranges .now) (a .range-count) e

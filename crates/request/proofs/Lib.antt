@@ -1,0 +1,4 @@
+pub mod Bound
+pub mod Checked
+pub mod Lasts
+pub mod Requested
