@@ -35,13 +35,10 @@ use Rattle.batch.specs.Turns.{one, madeOf}
 -- ── by what the record says ──
 
 -- past 14 a request has no flags
-pub no-flags : (bs : List ℕ) {r : Request} → answered r ≡ decode 0 bs → r .flags ≡ 0
-unfolding decode recordRows
-no-flags bs {r} e =
-    let p = answered-passed (recordRows 0 bs) (requestOf bs) r (sym e) in
-    let k = form-passed 0 (requestOf bs) (p .0 .1) in
-    ap (λ (r : Request). r .flags) (p .1)
-    ∙ elim (or-cases (eqb (requestOf bs .flags) 0) (eqb (requestOf bs .flags) 0) (k .flags .0)) [ inl e ↦ eqb→eq _ 0 e | inr e ↦ eqb→eq _ 0 e ]
+pub no-flags : (r : Request) → answered tt ≡ verdict (formRows 0 r) → r .flags ≡ 0
+no-flags r e =
+    let k = form-passed 0 r (answered-passed (formRows 0 r) tt tt (sym e) .0) in
+    elim (or-cases (eqb (r .flags) 0) (eqb (r .flags) 0) (k .flags .0)) [ inl e ↦ eqb→eq _ 0 e | inr e ↦ eqb→eq _ 0 e ]
 
 module _ (s : Space) (t : Table) (os : List ℕ) where
   abbrev by : Request → List Row → Changed
@@ -63,19 +60,12 @@ module _ (s : Space) (t : Table) (os : List ℕ) where
       go (refused n p) = refl
       go (answered v) = refl
 
-  pub record-by : (bs : List ℕ) {d : Reply Request} → length bs ≡ 40 → d ≡ decode 0 bs → one s t os (requestOf bs) ≡ then d asked
-  unfolding one recordRows decode
-  record-by bs l e =
-      changed-then r (formRows 0 r) _
-      ∙ go (verdict (formRows 0 r))
-      ∙ sym (ap (λ d. then d asked) (e ∙ past (recordRow (bytes bs) ∷ []) (formRows 0 r) r ((omega (tests, l), tt), tt) ∙ decide-verdict (formRows 0 r) r))
-    where
-      r : Request
-      r = requestOf bs
-
-      go : (u : Reply (Unit {0})) → then u (λ _. asked r) ≡ then (andThen u (answered r)) asked
-      go (refused n p) = refl
-      go (answered v) = refl
+  -- q is what the fields say, u what the rows of its form
+  pub form-by : (r : Request) {q : Request} {u : Reply (Unit {0})} → q ≡ r → u ≡ verdict (formRows 0 q) → one s t os r ≡ then u (λ _. asked q)
+  unfolding one
+  form-by r {q} {u} e f =
+      subst (λ (r : Request). one s t os r ≡ then u (λ _. asked q)) e
+      (changed-then q (formRows 0 q) _ ∙ ap (λ u. then u (λ _. asked q)) (sym f))
 
 -- what `bind` leaves of a request on a table that is known to pass, without the list
 pub known-by : (s : Space) (l : Lent) (os : List ℕ) (r : Request) {a : Reply Grant} {ws rs vs : List ℕ}

@@ -3,7 +3,6 @@
 // one. What the table held before stands in the work table, and is put back where a request is refused.
 use batches::BatchAnswer;
 use model::Answer;
-use model::Decoded;
 use model::Grant;
 use model::Refusal;
 use model::Space;
@@ -88,9 +87,10 @@ fn turn(
     requires { ⌜ Checked s (lent (now table) count) × (length (now «record») ≡ 40) ⌝ }
     ensures { λ a. ⌜ one s (lent (now (table .entry)) count) (now (operations .entry)) (requestOf (now («record» .entry))) ≡ record { reply = madeOf (answerReply a); table = now (table .exit); operations = now (operations .exit) } ⌝ }
 {
-    match record::decode(record, 0) {
-        Decoded::Refuse(w) => Answer::Refused(w),
-        Decoded::Record(r) => request::bind_request(
+    let r = record::fields(record);
+    match rules::form_verdict(r, 0) {
+        Verdict::Refuse(w) => Answer::Refused(w),
+        Verdict::Pass => request::bind_request(
             true,
             s,
             ranges,

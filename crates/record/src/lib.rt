@@ -46,7 +46,7 @@ pub fn u64_at(bytes: &[u8], at: usize) -> u64
 }
 
 // The fields of a whole record.
-fn fields(bytes: &[u8]) -> Request
+pub fn fields(bytes: &[u8]) -> Request
     requires { ⌜ length (now bytes) ≡ 40 ⌝ }
     ensures { λ r. ⌜ r ≡ requestOf (now (bytes .entry)) ⌝ }
 {

@@ -1,13 +1,14 @@
 -- Laws of a run that is moved inside a list: several moves that are one.
 -- Assumes nothing.
 use mathlib.Core.Path.{_≡_, refl, _∙_}
-use mathlib.Core.List.{List}
+use mathlib.Core.List.{List, append-nil}
+use borrow.Rule.Slice.PartMut.{midOf, putMid}
 use Prim.Native.Nat.{ℕ, _+_, _-_, _≤_, _<_}
 use native.Mathlib.Omega.{arith}
-use lib.ListN.{length, getD, set, take, drop, length-drop, take-append-drop}
-use lib.Seq.{length-take-le, take-add, drop-drop, getD-drop}
+use lib.ListN.{length, getD, set, take, drop, length-drop, take-append-drop, drop-of-length-le}
+use lib.Seq.{length-take-le, take-add, take-all, drop-drop, getD-drop}
 use Rattle.words.specs.Words.{stored, moved}
-use Rattle.words.proofs.Stored.{drop-stored, part-stored, stored-none, stored-next, stored-behind, stored-before}
+use Rattle.words.proofs.Stored.{drop-stored, part-stored, stored-none, stored-part, stored-next, stored-behind, stored-before}
 
 pub length-part : (ws : List ℕ) (from n : ℕ) → from + n ≤ length ws → length (take n (drop from ws)) ≡ n
 length-part ws from n h = length-take-le n (drop from ws) (simp length-drop (omega arith))
@@ -80,6 +81,15 @@ moved-more ws from to n j k h l o r =
     let m : n - (j - k) ≡ k + (n - j) = omega arith in
     rw m (rw (f, t) at (moved-up ws (from + (j - k)) (to + (j - k)) (n - j) k (omega arith) (omega arith)))
 
+-- in the part that is lent from a place on
+pub moved-part : (ws : List ℕ) (at from to n : ℕ) {part : List ℕ} → at ≤ length ws → part ≡ moved (midOf at (length ws - at) ws) from to n
+    → putMid at (length ws - at) ws part ≡ moved ws (at + from) (at + to) n
+unfolding moved
+moved-part ws at from to n h e =
+    let whole = take-all (length ws - at) (drop at ws) (omega (arith, length-drop at ws)) in
+    let none = drop-of-length-le (drop at ws) {i = length ws - at} (omega (arith, length-drop at ws)) in
+    rw (e, whole, none, drop-drop from at ws) (simp append-nil (stored-part ws at to (take n (drop (at + from) ws))))
+
 -- ── sixteen words, four at a time ──
 
 pub four-down : (ws a b c d : List ℕ) (from to : ℕ) → to ≤ from → from + 16 ≤ length ws → a ≡ moved ws from to 4 → b ≡ moved a (from + 4) (to + 4) 4
@@ -88,10 +98,3 @@ four-down ws a b c d from to h k p q r s =
     let e : b ≡ moved ws from to 8 = q ∙ rw p (moved-down ws from to 4 4 h (omega arith)) in
     let f : c ≡ moved ws from to 12 = r ∙ rw e (moved-down ws from to 8 4 h (omega arith)) in
     s ∙ rw f (moved-down ws from to 12 4 h (omega arith))
-
-pub four-up : (ws a b c d : List ℕ) (from to : ℕ) → from ≤ to → to + 16 ≤ length ws → a ≡ moved ws (from + 12) (to + 12) 4
-    → b ≡ moved a (from + 8) (to + 8) 4 → c ≡ moved b (from + 4) (to + 4) 4 → d ≡ moved c from to 4 → d ≡ moved ws from to 16
-four-up ws a b c d from to h k p q r s =
-    let e : b ≡ moved ws (from + 8) (to + 8) 8 = q ∙ rw p (moved-more ws from to 16 12 4 (omega arith) (omega arith) h k) in
-    let f : c ≡ moved ws (from + 4) (to + 4) 12 = r ∙ rw e (moved-more ws from to 16 8 4 (omega arith) (omega arith) h k) in
-    s ∙ rw f (moved-up ws from to 12 4 h (omega arith))

@@ -74,6 +74,13 @@ stored-none ws at = let e : at + 0 ≡ at = omega arith in rw e (take-append-dro
 pub set-stored : (ws : List ℕ) (at v : ℕ) → at < length ws → set ws at v ≡ stored ws at (v ∷ [])
 set-stored ws at v h = sets-stored ws at (v ∷ []) (omega arith)
 
+-- a run stored in the words from a place on
+pub stored-part : (ws : List ℕ) (at to : ℕ) (run : List ℕ) → take at ws ++ stored (drop at ws) to run ≡ stored ws (at + to) run
+unfolding stored
+stored-part ws at to run =
+    let e : at + (to + length run) ≡ at + to + length run = omega arith in
+    rw (take-add at to ws, drop-drop (to + length run) at ws, e) (simp append-assoc)
+
 -- ── a second run, behind the first or before it ──
 
 pub stored-behind : (ws : List ℕ) (at : ℕ) (run next : List ℕ) → at ≤ length ws

@@ -51,17 +51,6 @@ fn down_sixteen(t: &mut [u64], from: usize, to: usize)
     copy_four(t, from + 12, to + 12)
 }
 
-// The same where `to` is not below `from`: from the last four to the first.
-fn up_sixteen(t: &mut [u64], from: usize, to: usize)
-    requires { ⌜ (from ≤ to) × (to + 16 ≤ length (now t)) ⌝ }
-    ensures { λ _. ⌜ now (t .exit) ≡ moved (now (t .entry)) from to 16 ⌝ }
-{
-    copy_four(t, from + 12, to + 12);
-    copy_four(t, from + 8, to + 8);
-    copy_four(t, from + 4, to + 4);
-    copy_four(t, from, to)
-}
-
 // Copies `turns` times sixteen words, where `to` is not above `from`: from the first to the last.
 fn down_turns(t: &mut [u64], from: usize, to: usize, turns: usize)
     requires { ⌜ (to ≤ from) × (from + 16 * turns ≤ length (now t)) ⌝ }
@@ -71,18 +60,6 @@ fn down_turns(t: &mut [u64], from: usize, to: usize, turns: usize)
     while i < turns {
         down_sixteen(t, from + 16 * i, to + 16 * i);
         i += 1;
-    }
-}
-
-// The same where `to` is not below `from`: from the last to the first.
-fn up_turns(t: &mut [u64], from: usize, to: usize, turns: usize)
-    requires { ⌜ (from ≤ to) × (to + 16 * turns ≤ length (now t)) ⌝ }
-    ensures { λ _. ⌜ now (t .exit) ≡ moved (now (t .entry)) from to (16 * turns) ⌝ }
-{
-    let mut left = turns;
-    while 0 < left {
-        left -= 1;
-        up_sixteen(t, from + 16 * left, to + 16 * left);
     }
 }
 
@@ -120,9 +97,58 @@ pub fn up_few(t: &mut [u64], from: usize, to: usize, n: usize)
     }
 }
 
-// Copies the `n` words from `from` on to `to` on, where `to` is not above `from`: the first ones first, sixteen to a
-// turn.
-fn move_down(t: &mut [u64], from: usize, to: usize, n: usize)
+// Copies `n` words to the front from four places above it: one by one, from the first to the last. A slice that begins there
+// and a distance that is written down: of such a loop the compiler makes one call of memmove, which is as wide as the
+// machine's registers.
+fn down_by_four(t: &mut [u64], n: usize)
+    requires { ⌜ 4 + n ≤ length (now t) ⌝ }
+    ensures { λ _. ⌜ now (t .exit) ≡ moved (now (t .entry)) 4 0 n ⌝ }
+{
+    let mut j: usize = 0;
+    while j < n {
+        t[j] = t[4 + j];
+        j += 1;
+    }
+}
+
+// The same from eight places above it.
+fn down_by_eight(t: &mut [u64], n: usize)
+    requires { ⌜ 8 + n ≤ length (now t) ⌝ }
+    ensures { λ _. ⌜ now (t .exit) ≡ moved (now (t .entry)) 8 0 n ⌝ }
+{
+    let mut j: usize = 0;
+    while j < n {
+        t[j] = t[8 + j];
+        j += 1;
+    }
+}
+
+// Copies the first `n` words to four places above them: one by one, from the last to the first.
+fn up_by_four(t: &mut [u64], n: usize)
+    requires { ⌜ 4 + n ≤ length (now t) ⌝ }
+    ensures { λ _. ⌜ now (t .exit) ≡ moved (now (t .entry)) 0 4 n ⌝ }
+{
+    let mut j = n;
+    while 0 < j {
+        j -= 1;
+        t[4 + j] = t[j];
+    }
+}
+
+// The same to eight places above them.
+fn up_by_eight(t: &mut [u64], n: usize)
+    requires { ⌜ 8 + n ≤ length (now t) ⌝ }
+    ensures { λ _. ⌜ now (t .exit) ≡ moved (now (t .entry)) 0 8 n ⌝ }
+{
+    let mut j = n;
+    while 0 < j {
+        j -= 1;
+        t[8 + j] = t[j];
+    }
+}
+
+// Copies `n` words down by any distance: the first ones first, sixteen to a turn.
+fn down_far(t: &mut [u64], from: usize, to: usize, n: usize)
     requires { ⌜ (to ≤ from) × (from + n ≤ length (now t)) ⌝ }
     ensures { λ _. ⌜ now (t .exit) ≡ moved (now (t .entry)) from to n ⌝ }
 {
@@ -131,14 +157,33 @@ fn move_down(t: &mut [u64], from: usize, to: usize, n: usize)
     down_few(t, from + 16 * turns, to + 16 * turns, n % 16)
 }
 
-// The same where `to` is not below `from`: the last ones first.
+// Copies the `n` words from `from` on to `to` on, where `to` is not above `from`. A mapping's four words and two mappings'
+// eight are the distances that mostly come.
+fn move_down(t: &mut [u64], from: usize, to: usize, n: usize)
+    requires { ⌜ (to ≤ from) × (from + n ≤ length (now t)) ⌝ }
+    ensures { λ _. ⌜ now (t .exit) ≡ moved (now (t .entry)) from to n ⌝ }
+{
+    if from - to == 4 {
+        return down_by_four(&mut t[to..], n);
+    }
+    if from - to == 8 {
+        return down_by_eight(&mut t[to..], n);
+    }
+    down_far(t, from, to, n)
+}
+
+// The same where `to` is not below `from`: a request makes room for one mapping or for two.
 fn move_up(t: &mut [u64], from: usize, to: usize, n: usize)
     requires { ⌜ (from ≤ to) × (to + n ≤ length (now t)) ⌝ }
     ensures { λ _. ⌜ now (t .exit) ≡ moved (now (t .entry)) from to n ⌝ }
 {
-    let few = n % 16;
-    up_turns(t, from + few, to + few, n / 16);
-    up_few(t, from, to, few)
+    if to - from == 4 {
+        return up_by_four(&mut t[from..], n);
+    }
+    if to - from == 8 {
+        return up_by_eight(&mut t[from..], n);
+    }
+    up_few(t, from, to, n)
 }
 
 // Copies the `n` words from `from` on to `to` on; the two runs may overlap.
