@@ -97,10 +97,10 @@ fn halve(list: &[u64], count: usize, x: u64) -> Search
 {
     let mut s = Search {
         lo: 0,
-        hi: count,
+        left: count,
         looks: 0,
     };
-    while s.lo < s.hi {
+    while 0 < s.left {
         s = table::halved(s, as_mapping(range_at(list, table::middle(s))), x);
     }
     s

@@ -14,7 +14,7 @@ use Rattle.model.specs.declared.Space.{Space}
 use Rattle.model.specs.Cut.{see}
 use Rattle.model.specs.Exactly.{Each, Ascends}
 use Rattle.table.specs.declared.Search.{Search}
-use Rattle.table.specs.Places.{firstWhere, endsBehind}
+use Rattle.table.specs.Places.{firstWhere, endsBehind, Valid}
 
 -- how many binary digits n has: none if it is 0, else one and those of its half (k is at least their number)
 unfoldable pub digitsIn : ℕ → ℕ → ℕ
@@ -29,16 +29,17 @@ binaryDigits n = digitsIn n n
 
 -- before the first step all n places are left
 abbrev pub whole : ℕ → Search
-whole n = record { lo = 0; hi = n; looks = 0 }
+whole n = record { lo = 0; left = n; looks = 0 }
 
 abbrev pub middle : Search → ℕ
-middle s = s .lo + (s .hi - s .lo) / 2
+middle s = s .lo + s .left / 2
 
--- what a look at the mapping in the middle leaves: the places before it if it ends behind x, else those after it
+-- what a look at the mapping in the middle leaves, half of the places: the first ones if it ends behind x, else the last
+-- ones. Either way they are as many, so that only the number of mappings tells how many looks there are
 unfoldable pub halved : ℕ → Mapping → Search → Search
 halved x m s = choose (endsBehind x m)
-    (record { lo = s .lo; hi = middle s; looks = s .looks + 1 })
-    (record { lo = middle s + 1; hi = s .hi; looks = s .looks + 1 })
+    (record { lo = s .lo; left = s .left / 2; looks = s .looks + 1 })
+    (record { lo = s .lo + (s .left - s .left / 2); left = s .left / 2; looks = s .looks + 1 })
 
 -- the mapping at a place; only where there is one is it looked at
 abbrev pub at : List Mapping → ℕ → Mapping
@@ -46,7 +47,7 @@ at ms i = getD ms i (record { address = 0; size = 0; object = 0; offset = 0 })
 
 -- one step: a look, unless nothing is left
 unfoldable pub step : List Mapping → ℕ → Search → Search
-step ms x s = choose (ltb (s .lo) (s .hi)) (halved x (at ms (middle s)) s) s
+step ms x s = choose (ltb 0 (s .left)) (halved x (at ms (middle s)) s) s
 
 unfoldable pub steps : ℕ → List Mapping → ℕ → Search → Search
 steps zero ms x s = s
@@ -58,9 +59,16 @@ halving ms x = steps (binaryDigits (length ms)) ms x (whole (length ms))
 
 -- what the code that halves asks: something is left, and no sum is large (a number of 64 bits has no more digits)
 pub record Halvable (s : Search) (m : Mapping) : Type 0 where
-  pub left : s .lo < s .hi
+  pub some : 0 < s .left
+  pub places : s .lo + s .left < 2 ^ 64
   pub few : s .looks < 64
   pub end-most : end m ≤ limit
+
+-- what a step of the code asks: a table that passed its check, places in it, and looks to come
+pub record Steppable (ws : List ℕ) (count : ℕ) (s : Search) : Type 0 where
+  pub valid : Valid ws count
+  pub most : s .lo + s .left ≤ count
+  pub few : 0 < s .left → s .looks < 64
 
 -- ── what is claimed ──
 
@@ -71,16 +79,16 @@ BinaryDigits = (n d : ℕ) → (binaryDigits n ≤ d) ↔ (n < 2 ^ d)
 -- nothing is left, within that many looks; the place is that of the first mapping that ends behind x, and it alone
 -- decides what a look-up sees at x, beside any sparse ranges
 pub record Finds (ms : List Mapping) (x : ℕ) (s : Search) : Type 0 where
-  pub ended : s .lo ≡ s .hi
+  pub ended : s .left ≡ 0
   pub within : s .looks ≤ binaryDigits (length ms)
   pub first : s .lo ≡ firstWhere (endsBehind x) ms
   pub before : Each (λ m. end m ≤ x) (take (s .lo) ms)
   pub behind : Each (λ m. x < end m) (drop (s .lo) ms)
   pub sees : (space : Space) (ys : List Range) → see space ys (take 1 (drop (s .lo) ms)) x ≡ see space ys ms x
 
--- each step looks at one mapping: no other has a say in it; it counts the look, and leaves at most half
+-- each step looks at one mapping: no other has a say in it; it counts the look, and leaves half
 pub record Halving : Type 0 where
   pub one-mapping : (ms ns : List Mapping) (x : ℕ) (s : Search) → at ms (middle s) ≡ at ns (middle s) → step ms x s ≡ step ns x s
-  pub one-look : (ms : List Mapping) (x : ℕ) (s : Search) → s .lo < s .hi → step ms x s .looks ≡ s .looks + 1
-  pub half-left : (ms : List Mapping) (x : ℕ) (s : Search) → step ms x s .hi - step ms x s .lo ≤ (s .hi - s .lo) / 2
+  pub one-look : (ms : List Mapping) (x : ℕ) (s : Search) → 0 < s .left → step ms x s .looks ≡ s .looks + 1
+  pub half-left : (ms : List Mapping) (x : ℕ) (s : Search) → step ms x s .left ≡ s .left / 2
   pub finds : (ms : List Mapping) (x : ℕ) → Ascends ms → Finds ms x (halving ms x)

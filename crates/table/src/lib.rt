@@ -5,16 +5,19 @@ use model::Shown;
 use model::Space;
 ghost use mathlib.Core.Path.{_≡_};
 ghost use mathlib.Core.List.{[], _∷_, _++_, flatMap};
-ghost use Prim.Native.Nat.{_+_, _*_, _≤_, _<_, max};
+ghost use Prim.Native.Nat.{_+_, _*_, _^_, _≤_, _<_, max};
 ghost use lib.ListN.{length, drop};
 ghost use Rattle.model.specs.Rules.{limit, end};
 ghost use Rattle.model.specs.Table.{mappingFrom, mappingsIn, wordsOf, written};
 ghost use Rattle.model.specs.Cut.{prepend, inSpaceTests, see};
 ghost use Rattle.model.specs.Rows.{all};
 ghost use Rattle.words.specs.Words.{stored, cleared, ZeroFrom};
-ghost use Rattle.table.specs.Halving.{binaryDigits, middle, halved, halving, Halvable};
+ghost use Rattle.table.specs.Halving.{binaryDigits, middle, halved, step, halving, Halvable, Steppable};
 ghost use Rattle.table.specs.Places.{mappingAt, firstWhere, startsBehind, endsBehind, seenBy, freeTests, Valid, ValidIn};
 ghost use Rattle.table.specs.Splice.{mappingsOf, spliced, Splice};
+
+// The binary digits of 4,096, the most mappings that a table has.
+const MOST_STEPS: usize = 13;
 
 // Up to three mappings that take the place of others.
 pub enum Replacement {
@@ -24,11 +27,12 @@ pub enum Replacement {
     Three(Mapping, Mapping, Mapping),
 }
 
-// A search for the first mapping that ends behind a byte address: its place is from `lo` to `hi`, after `looks` looks at one mapping each.
-// Sparse ranges are searched in the same way, each as a mapping of its addresses.
+// A search for the first mapping that ends behind a byte address: its place is one of the `left` from `lo` on, or right behind
+// them, after `looks` looks at one mapping each. Sparse ranges are searched in the same way, each as a mapping of its
+// addresses.
 pub struct Search {
     pub lo: usize,
-    pub hi: usize,
+    pub left: usize,
     pub looks: usize,
 }
 
@@ -80,10 +84,10 @@ pub fn first_starting_behind(t: &[u64], from: usize, count: usize, x: u64) -> us
 
 // The place in the middle of what is left: where the next look goes.
 pub fn middle(s: Search) -> usize
-    requires { ⌜ s .lo ≤ s .hi ⌝ }
+    requires { ⌜ s .lo + s .left < 2 ^ 64 ⌝ }
     ensures { λ i. ⌜ i ≡ middle s ⌝ }
 {
-    s.lo + (s.hi - s.lo) / 2
+    s.lo + s.left / 2
 }
 
 // What a look at the mapping in the middle leaves of the search for `x`. The table is not lent here: that mapping alone decides, and it is counted.
@@ -91,33 +95,53 @@ pub fn halved(s: Search, m: Mapping, x: u64) -> Search
     requires { ⌜ Halvable s m ⌝ }
     ensures { λ r. ⌜ r ≡ halved x m s ⌝ }
 {
+    let half = s.left / 2;
     let looks = s.looks + 1;
     if x < m.address + m.size {
         return Search {
             lo: s.lo,
-            hi: middle(s),
+            left: half,
             looks: looks,
         };
     }
     Search {
-        lo: middle(s) + 1,
-        hi: s.hi,
+        lo: s.lo + (s.left - half),
+        left: half,
         looks: looks,
     }
 }
 
-// The search for `x` by halves, which may be used since ends ascend: no more looks than `count` has binary digits.
+// One step of the search: a look at the mapping in the middle, unless nothing is left.
+fn step(t: &[u64], count: usize, s: Search, x: u64) -> Search
+    requires { ⌜ Steppable (now t) count s ⌝ }
+    ensures { λ r. ⌜ r ≡ step (mappingsIn count (now (t .entry))) x s ⌝ }
+{
+    if s.left == 0 {
+        return s;
+    }
+    halved(s, read_mapping(t, middle(s)), x)
+}
+
+// The search for `x` by halves, which may be used since ends ascend: no more looks than `count` has binary digits. So many
+// steps are enough for the longest table. Their number is written down, so that the compiler sets them one behind the other,
+// each with a conditional move: in a loop it makes a branch of the look, and half of the time an address that nobody foresaw
+// goes the other way.
 fn halve(t: &[u64], count: usize, x: u64) -> Search
     requires { ⌜ Valid (now t) count ⌝ }
     ensures { λ s. ⌜ (s ≡ halving (mappingsIn count (now (t .entry))) x) × (s .looks ≤ binaryDigits count) ⌝ }
 {
     let mut s = Search {
         lo: 0,
-        hi: count,
+        left: count,
         looks: 0,
     };
-    while s.lo < s.hi {
-        s = halved(s, read_mapping(t, middle(s)), x);
+    let mut steps: usize = 0;
+    while steps < MOST_STEPS {
+        s = step(t, count, s, x);
+        steps += 1;
+    }
+    while 0 < s.left {
+        s = step(t, count, s, x);
     }
     s
 }

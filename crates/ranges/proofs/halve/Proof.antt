@@ -2,7 +2,6 @@
 -- Assumes nothing.
 use mathlib.Core.Path.{ap, _∙_}
 use mathlib.Core.List.{map}
-use Prim.Native.Nat.{_-_}
 use native.Mathlib.Omega.{arith}
 use Rattle.model.specs.Ranges.{rangesIn}
 use Rattle.table.specs.Halving.{binaryDigits}
@@ -19,13 +18,15 @@ abbrev Inv-loop : tie.InvT-loop
 Inv-loop list count x s₀ s = Left (map asMapping (rangesIn count list)) x s
 
 abbrev μ-loop : tie.MeasureT-loop
-μ-loop list count x s₀ s = binaryDigits (s .hi - s .lo)
+μ-loop list count x s₀ s = binaryDigits (s .left)
 
 loop-holds : tie.Need-loop-holds Inv-loop μ-loop
 loop-holds c = looks-start (valid-order (c .before .pre)) (c .before .args .x)
 
 middle-requires : tie.Need-middle-requires Inv-loop μ-loop
-middle-requires c κs = search needs
+middle-requires c κs =
+    let loop = c .before .before in
+    omega (arith, loop .loop .inv .within .most, valid-order (loop .before .before .pre) .many)
 
 range-at-requires : tie.Need-range-at-requires Inv-loop μ-loop
 range-at-requires c κs =
