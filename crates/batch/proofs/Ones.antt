@@ -60,12 +60,10 @@ module _ (s : Space) (t : Table) (os : List ℕ) where
       go (refused n p) = refl
       go (answered v) = refl
 
-  -- q is what the fields say, u what the rows of its form
-  pub form-by : (r : Request) {q : Request} {u : Reply (Unit {0})} → q ≡ r → u ≡ verdict (formRows 0 q) → one s t os r ≡ then u (λ _. asked q)
+  -- u is what the rows of its form say
+  pub form-by : (r : Request) {u : Reply (Unit {0})} → u ≡ verdict (formRows 0 r) → one s t os r ≡ then u (λ _. asked r)
   unfolding one
-  form-by r {q} {u} e f =
-      subst (λ (r : Request). one s t os r ≡ then u (λ _. asked q)) e
-      (changed-then q (formRows 0 q) _ ∙ ap (λ u. then u (λ _. asked q)) (sym f))
+  form-by r e = changed-then r (formRows 0 r) _ ∙ ap (λ u. then u (λ _. asked r)) (sym e)
 
 -- what `bind` leaves of a request on a table that is known to pass, without the list
 pub known-by : (s : Space) (l : Lent) (os : List ℕ) (r : Request) {a : Reply Grant} {ws rs vs : List ℕ}

@@ -1,10 +1,11 @@
 // The public call for a whole array of requests (document 02, Item 2): all are granted, or none. The table and the list are
 // checked once; each request then goes to `request` on a table that is known to pass, which a grant leaves so for the next
-// one. What the table held before stands in the work table, and is put back where a request is refused.
+// one. The mappings before stand in the work table, and are put back where a request is refused.
 use batches::BatchAnswer;
 use model::Answer;
 use model::Grant;
 use model::Refusal;
+use model::Request;
 use model::Space;
 use model::Verdict;
 ghost use mathlib.Core.Path.{_≡_};
@@ -12,9 +13,10 @@ ghost use mathlib.Core.List.{[], _∷_};
 ghost use lib.ListN.{length};
 ghost use Rattle.model.specs.Rows.{all, verdict};
 ghost use Rattle.model.specs.Table.{operationsRow, tableRows};
-ghost use Rattle.model.specs.Calls.{requestOf, lentRows, verdictReply, answerReply};
+ghost use Rattle.model.specs.Calls.{lentRows, verdictReply, answerReply};
 ghost use Rattle.batches.specs.Batch.{requestsIn, batchRow, workRow, bindBatch, batchReply};
 ghost use Rattle.table.specs.Places.{lent};
+ghost use Rattle.change.specs.Change.{FirstBehind};
 ghost use Rattle.request.specs.Bound.{lentWords, Checked};
 ghost use Rattle.batch.specs.Turns.{one, madeOf, turned, turnsReply, committed};
 
@@ -73,8 +75,8 @@ fn lent_verdict(
     }
 }
 
-// A record in its turn: rows 13 and 14, of which no flag is served, 6 to 11 and 16, or the table cut and the operations from
-// the first word on.
+// A request in its turn: rows 13 and 14, of which no flag is served, 6 to 11 and 16, or the table cut and the operations
+// from the first word on. The first mapping that ends behind its address is at `place`.
 fn turn(
     s: Space,
     ranges: &[u64],
@@ -82,12 +84,12 @@ fn turn(
     table: &mut [u64],
     count: usize,
     operations: &mut [u64],
-    record: &[u8],
+    r: Request,
+    place: usize,
 ) -> Answer
-    requires { ⌜ Checked s (lent (now table) count) × (length (now «record») ≡ 40) ⌝ }
-    ensures { λ a. ⌜ one s (lent (now (table .entry)) count) (now (operations .entry)) (requestOf (now («record» .entry))) ≡ record { reply = madeOf (answerReply a); table = now (table .exit); operations = now (operations .exit) } ⌝ }
+    requires { ⌜ Checked s (lent (now table) count) × FirstBehind (r .address) (lent (now table) count) place ⌝ }
+    ensures { λ a. ⌜ one s (lent (now (table .entry)) count) (now (operations .entry)) r ≡ record { reply = madeOf (answerReply a); table = now (table .exit); operations = now (operations .exit) } ⌝ }
 {
-    let r = record::fields(record);
     match rules::form_verdict(r, 0) {
         Verdict::Refuse(w) => Answer::Refused(w),
         Verdict::Pass => request::bind_request(
@@ -99,11 +101,13 @@ fn turn(
             count,
             operations,
             r,
+            place,
         ),
     }
 }
 
-// All records, one after another, until one is refused: each is lent the operation words that those before it left.
+// All records, one after another, until one is refused: each is lent the operation words that those before it left. Its place
+// is mostly near that of the one before.
 fn turns(
     s: Space,
     ranges: &[u64],
@@ -118,9 +122,12 @@ fn turns(
 {
     let mut held = count;
     let mut used: usize = 0;
+    let mut place: usize = 0;
     let mut i: usize = 0;
     while i < records.len() / record::RECORD_BYTES {
         let at = record::RECORD_BYTES * i;
+        let r = record::fields(&records[at..at + record::RECORD_BYTES]);
+        place = table::first_near(table, held, r.address, place);
         let answer = turn(
             s,
             ranges,
@@ -128,7 +135,8 @@ fn turns(
             table,
             held,
             &mut operations[cut::OPERATION_WORDS * used..],
-            &records[at..at + record::RECORD_BYTES],
+            r,
+            place,
         );
         match answer {
             Answer::Refused(w) => {
@@ -144,8 +152,8 @@ fn turns(
     TurnsAnswer::Made(used, held)
 }
 
-// All or none: what the table holds is kept in the work table, and put back where a request is refused; then no operation is
-// left either. The work table is zeros afterwards.
+// All or none: the table's mappings are kept in the work table, and put back where a request is refused; behind them there
+// were zeros. Then no operation is left either. The work table is zeros afterwards.
 fn all_or_none(
     s: Space,
     ranges: &[u64],
@@ -159,10 +167,11 @@ fn all_or_none(
     requires { ⌜ Checked s (lent (now table) count) × (length (now work) ≡ length (now table)) ⌝ }
     ensures { λ a. ⌜ committed «range_count» (turned s 0 (requestsIn (now (records .entry))) (lent (now (table .entry)) count) (now (operations .entry))) (now (table .entry)) (now (work .entry)) (now (operations .entry)) ≡ record { answer = batchReply a; table = now (table .exit); work = now (work .exit); operations = now (operations .exit) } ⌝ }
 {
-    words::store(work, 0, table);
+    words::store(work, 0, &table[..4 * count]);
     match turns(s, ranges, range_count, table, count, operations, records) {
         TurnsAnswer::Refused(number, place) => {
-            words::store(table, 0, work);
+            words::store(table, 0, &work[..4 * count]);
+            words::clear(table, 4 * count, table.len());
             words::clear(work, 0, work.len());
             words::clear(operations, 0, operations.len());
             BatchAnswer::Refused(number, place)

@@ -193,6 +193,7 @@ pub fn bind(
             count,
             operations,
             r,
+            0,
         ),
     }
 }
@@ -222,6 +223,7 @@ pub fn bind_record(
                 count,
                 operations,
                 r,
+                0,
             );
             if r.flags == 0 {
                 return answer;

@@ -24,6 +24,10 @@ pub record Ready (r : Request) (t : Table) : Type 0 where
   pub stop-most : stop r ≤ limit
   pub offset-most : r .offset ≤ limit
 
+-- the place of the first mapping that ends behind x
+abbrev pub FirstBehind : ℕ → Table → ℕ → Type 0
+FirstBehind x t i = i ≡ firstWhere (endsBehind x) (mappings t)
+
 -- the mappings hit are those from place lo up to hi: lo is the first that ends behind the range's first byte, and hi
 -- the first from there on that starts behind its last
 pub record Placed (r : Request) (ws : List ℕ) (lo hi : ℕ) : Type 0 where

@@ -9,7 +9,7 @@ ghost use lib.ListN.{length};
 ghost use Rattle.model.specs.Cut.{new, after};
 ghost use Rattle.table.specs.Places.{lent, between};
 ghost use Rattle.table.specs.Splice.{mappingsOf};
-ghost use Rattle.change.specs.Change.{changeReply, Ready, Placed, changed};
+ghost use Rattle.change.specs.Change.{changeReply, Ready, FirstBehind, Placed, changed};
 
 // What carrying out a request came to: so many operations and so many mappings afterwards; or no room in the table, or too
 // few words for its operations, and nothing has changed.
@@ -45,12 +45,18 @@ fn replacement(r: Request, t: &[u64], lo: usize, hi: usize) -> Replacement
     table::with_part(with_new(below, r), upper)
 }
 
-// The request carried out, unless there is no room: its operations from the first word on, and the table in its place.
-pub fn change(r: Request, t: &mut [u64], count: usize, operations: &mut [u64]) -> ChangeAnswer
-    requires { ⌜ Ready r (lent (now t) count) ⌝ }
+// The request carried out, unless there is no room: its operations from the first word on, and the table in its place. The
+// first mapping that ends behind its address is at place `lo`.
+pub fn change(
+    r: Request,
+    t: &mut [u64],
+    count: usize,
+    operations: &mut [u64],
+    lo: usize,
+) -> ChangeAnswer
+    requires { ⌜ Ready r (lent (now t) count) × FirstBehind (r .address) (lent (now t) count) lo ⌝ }
     ensures { λ a. ⌜ changed r (lent (now (t .entry)) count) (now (operations .entry)) ≡ record { reply = changeReply a; table = now (t .exit); operations = now (operations .exit) } ⌝ }
 {
-    let lo = table::first_ending_behind(t, count, r.address);
     let hi = table::first_starting_behind(t, lo, count, cut::last_byte(r));
     let new = replacement(r, t, lo, hi);
     let after = lo + table::replacement_length(new) + (count - hi);

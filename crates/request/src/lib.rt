@@ -17,9 +17,9 @@ ghost use Rattle.model.specs.Rules.{spaceTests};
 ghost use Rattle.model.specs.Table.{operationsRow, tableRows};
 ghost use Rattle.model.specs.Ranges.{listRow};
 ghost use Rattle.model.specs.Calls.{lentRows, verdictReply, answerReply};
-ghost use Rattle.table.specs.Places.{lent};
+ghost use Rattle.table.specs.Places.{lent, Valid};
 ghost use Rattle.ranges.specs.Lists.{lentList};
-ghost use Rattle.change.specs.Change.{Ready};
+ghost use Rattle.change.specs.Change.{Ready, FirstBehind};
 ghost use Rattle.request.specs.Bound.{lentWords, lengthRows, frontRows, Checked, cutting, requested};
 
 // Row 18.
@@ -112,19 +112,31 @@ fn bind_verdict(
     rules::request_verdict(s, r)
 }
 
-// A request without the flag that passed rows 1 to 10, 17 and 18: rows 11 and 16, or the table cut. The list plays no part;
-// its count is answered.
+// The place of the first mapping that ends behind `x`, unless it is known.
+fn first_place(known: bool, place: usize, table: &[u64], count: usize, x: u64) -> usize
+    requires { ⌜ Valid (now table) count × (known ≡ true → FirstBehind x (lent (now table) count) place) ⌝ }
+    ensures { λ i. ⌜ FirstBehind x (lent (now (table .entry)) count) i ⌝ }
+{
+    if known {
+        return place;
+    }
+    table::first_ending_behind(table, count, x)
+}
+
+// A request without the flag that passed rows 1 to 10, 17 and 18: rows 11 and 16, or the table cut, from the first mapping
+// that ends behind its address on. The list plays no part; its count is answered.
 fn cut_table(
     r: Request,
     table: &mut [u64],
     count: usize,
     operations: &mut [u64],
     ranges: usize,
+    place: usize,
 ) -> Answer
-    requires { ⌜ Ready r (lent (now table) count) ⌝ }
+    requires { ⌜ Ready r (lent (now table) count) × FirstBehind (r .address) (lent (now table) count) place ⌝ }
     ensures { λ a. ⌜ ((rs : List ℕ) → cutting r (lentWords rs ranges (now (table .entry)) count) (now (operations .entry)) ≡ record { answer = answerReply a; table = now (table .exit); ranges = rs; operations = now (operations .exit) }) ⌝ }
 {
-    match change::change(r, table, count, operations) {
+    match change::change(r, table, count, operations, place) {
         ChangeAnswer::NoRoom => Answer::Refused(Refusal::NoRoom),
         ChangeAnswer::ShortOutput => Answer::Refused(Refusal::ShortOutput),
         ChangeAnswer::Made(made, after) => Answer::Granted(Grant {
@@ -137,7 +149,8 @@ fn cut_table(
 
 // A request whose form is right: rows 1 to 5, 17, 18 and 6 to 10. One without the flag goes on to row 11; of one with it
 // the grant says that these passed, and what is left is the list's. The list is only read. Where the rows up to 18 are
-// known to pass, as for the requests of a batch, they are not tested again, row 3 neither: then 16 comes behind 11.
+// known to pass, as for the requests of a batch, they are not tested again, row 3 neither: then 16 comes behind 11; and the
+// place of the first mapping that ends behind the request's address is known too.
 pub fn bind_request(
     known: bool,
     s: Space,
@@ -147,8 +160,9 @@ pub fn bind_request(
     count: usize,
     operations: &mut [u64],
     r: Request,
+    place: usize,
 ) -> Answer
-    requires { ⌜ (known ≡ true → Checked s (lent (now table) count) × (r .flags ≡ 0)) ⌝ }
+    requires { ⌜ (known ≡ true → Checked s (lent (now table) count) × (r .flags ≡ 0) × FirstBehind (r .address) (lent (now table) count) place) ⌝ }
     ensures { λ a. ⌜ requested known s (lentWords (now (ranges .entry)) «range_count» (now (table .entry)) count) (now (operations .entry)) r ≡ record { answer = answerReply a; table = now (table .exit); ranges = now (ranges .entry); operations = now (operations .exit) } ⌝ }
 {
     match bind_verdict(
@@ -164,7 +178,8 @@ pub fn bind_request(
         Verdict::Refuse(w) => Answer::Refused(w),
         Verdict::Pass => {
             if r.flags == 0 {
-                return cut_table(r, table, count, operations, range_count);
+                let first = first_place(known, place, table, count, r.address);
+                return cut_table(r, table, count, operations, range_count, first);
             }
             Answer::Granted(Grant {
                 operations: 0,

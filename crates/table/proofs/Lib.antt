@@ -4,6 +4,7 @@ pub mod Ends
 pub mod First
 pub mod Halving
 pub mod Looks
+pub mod Near
 pub mod Places
 pub mod Sees
 pub mod Spliced

@@ -4,6 +4,7 @@ use model::Seen;
 use model::Shown;
 use model::Space;
 ghost use mathlib.Core.Path.{_≡_};
+ghost use mathlib.Core.Bool.{true, false};
 ghost use mathlib.Core.List.{[], _∷_, _++_, flatMap};
 ghost use Prim.Native.Nat.{_+_, _*_, _^_, _≤_, _<_, max};
 ghost use lib.ListN.{length, drop};
@@ -152,6 +153,49 @@ pub fn first_ending_behind(t: &[u64], count: usize, x: u64) -> usize
     ensures { λ i. ⌜ i ≡ firstWhere (endsBehind x) (mappingsIn count (now (t .entry))) ⌝ }
 {
     halve(t, count, x).lo
+}
+
+// No mapping before place `i` ends behind `x`.
+fn passes(t: &[u64], count: usize, i: usize, x: u64) -> bool
+    requires { ⌜ Valid (now t) count × (i ≤ count) ⌝ }
+    ensures { λ b. ⌜ (b ≡ true → i ≤ firstWhere (endsBehind x) (mappingsIn count (now (t .entry)))) ⌝ }
+{
+    if i == 0 {
+        return true;
+    }
+    let m = read_mapping(t, i - 1);
+    m.address + m.size <= x
+}
+
+// The mapping at place `i` ends behind `x`, or there is none.
+fn reaches(t: &[u64], count: usize, i: usize, x: u64) -> bool
+    requires { ⌜ Valid (now t) count × (i ≤ count) ⌝ }
+    ensures { λ b. ⌜ (b ≡ true → firstWhere (endsBehind x) (mappingsIn count (now (t .entry))) ≤ i) × (b ≡ false → i < firstWhere (endsBehind x) (mappingsIn count (now (t .entry)))) ⌝ }
+{
+    if i == count {
+        return true;
+    }
+    let m = read_mapping(t, i);
+    x < m.address + m.size
+}
+
+// The place of the first mapping that ends behind `x`, which may be `near` or the next one: so it mostly is for a request
+// that comes right behind another or takes it back. Else it is searched for.
+pub fn first_near(t: &[u64], count: usize, x: u64, near: usize) -> usize
+    requires { ⌜ Valid (now t) count ⌝ }
+    ensures { λ i. ⌜ i ≡ firstWhere (endsBehind x) (mappingsIn count (now (t .entry))) ⌝ }
+{
+    if near < count {
+        if passes(t, count, near, x) {
+            if reaches(t, count, near, x) {
+                return near;
+            }
+            if reaches(t, count, near + 1, x) {
+                return near + 1;
+            }
+        }
+    }
+    first_ending_behind(t, count, x)
 }
 
 // No mapping shares a byte with [from, to): the first that ends behind `from`, if there is one, starts at `to` or behind.

@@ -12,24 +12,20 @@ use borrow.Author.Needs.{needs}
 use Rattle.change.proofs.change.Statement.{statement}
 use Rattle.change.proofs.change.Tie as tie
 
-first-ending-behind-requires : tie.Need-first-ending-behind-requires
-first-ending-behind-requires c κs = c .before .before .before .pre .table
-
 last-byte-requires : tie.Need-last-byte-requires
-last-byte-requires c κs = let start = c .before .before .before .before .before in (start .pre .not-empty, start .pre .stop-most)
+last-byte-requires c κs = let start = c .before .before .before in (start .pre .0 .not-empty, start .pre .0 .stop-most)
 
 first-starting-behind-requires : tie.Need-first-starting-behind-requires
 first-starting-behind-requires c κs =
-    let low = c .before .before in
-    let start = low .before .before .before .before in
+    let start = c .before .before .before .before in
     let a = start .args in
-    (omega (arith, low .first-ending-behind .ensures, first-most (endsBehind (a .r .address)) (mappingsIn (a .count) (a .t .now)), length-mappings (a .count) (a .t .now)), start .pre .table .held)
+    (omega (arith, start .pre .1, first-most (endsBehind (a .r .address)) (mappingsIn (a .count) (a .t .now)), length-mappings (a .count) (a .t .now)), start .pre .0 .table .held)
 
 replacement-requires : tie.Need-replacement-requires
 replacement-requires c κs =
     let high = c .before in
-    let low = high .before .before .before in
-    placed (low .before .before .before .before .pre) (low .first-ending-behind .ensures) (high .before .last-byte .ensures) (high .first-starting-behind .ensures)
+    let start = high .before .before .before .before .before in
+    placed (start .pre .0) (start .pre .1) (high .before .last-byte .ensures) (high .first-starting-behind .ensures)
 
 replacement-length-requires : tie.Need-replacement-length-requires
 replacement-length-requires c κs = search needs
@@ -38,28 +34,25 @@ add-after : tie.Need-add-after
 add-after c =
     let new = c .before in
     let high = new .before .before in
-    let low = high .before .before .before in
-    let start = low .before .before .before .before in
-    let p = placed (start .pre) (low .first-ending-behind .ensures) (high .before .last-byte .ensures) (high .first-starting-behind .ensures) in
-    omega (arith, low-high p, start .pre .table .held, c .replacement-length .ensures .1, start .good)
+    let start = high .before .before .before .before .before in
+    let p = placed (start .pre .0) (start .pre .1) (high .before .last-byte .ensures) (high .first-starting-behind .ensures) in
+    omega (arith, low-high p, start .pre .0 .table .held, c .replacement-length .ensures .1, start .good)
 
 sub-after : tie.Need-sub-after
 sub-after c =
     let new = c .before in
     let high = new .before .before in
-    let low = high .before .before .before in
-    let start = low .before .before .before .before in
-    let p = placed (start .pre) (low .first-ending-behind .ensures) (high .before .last-byte .ensures) (high .first-starting-behind .ensures) in
+    let start = high .before .before .before .before .before in
+    let p = placed (start .pre .0) (start .pre .1) (high .before .last-byte .ensures) (high .first-starting-behind .ensures) in
     low-high p .1
 
 add-after-2 : tie.Need-add-after-2
 add-after-2 c =
     let new = c .before in
     let high = new .before .before in
-    let low = high .before .before .before in
-    let start = low .before .before .before .before in
-    let p = placed (start .pre) (low .first-ending-behind .ensures) (high .before .last-byte .ensures) (high .first-starting-behind .ensures) in
-    omega (arith, low-high p, start .pre .table .held, c .replacement-length .ensures .1, start .good)
+    let start = high .before .before .before .before .before in
+    let p = placed (start .pre .0) (start .pre .1) (high .before .last-byte .ensures) (high .first-starting-behind .ensures) in
+    omega (arith, low-high p, start .pre .0 .table .held, c .replacement-length .ensures .1, start .good)
 
 same-length : tie.Need-same-length
 same-length c = search needs
@@ -69,9 +62,8 @@ returns c =
     let counted = c .before in
     let new = counted .before in
     let high = new .before .before in
-    let low = high .before .before .before in
-    let start = low .before .before .before .before in
-    let p = placed (start .pre) (low .first-ending-behind .ensures) (high .before .last-byte .ensures) (high .first-starting-behind .ensures) in
+    let start = high .before .before .before .before .before in
+    let p = placed (start .pre .0) (start .pre .1) (high .before .last-byte .ensures) (high .first-starting-behind .ensures) in
     full p (start .args .operations .now) (new .replacement .ensures) (counted .replacement-length .ensures .0) (omega (arith, c .if1 .taken))
 
 operations-number-requires : tie.Need-operations-number-requires
@@ -79,20 +71,18 @@ operations-number-requires c κs =
     let counted = c .before in
     let new = counted .before in
     let high = new .before .before in
-    let low = high .before .before .before in
-    let start = low .before .before .before .before in
-    let p = placed (start .pre) (low .first-ending-behind .ensures) (high .before .last-byte .ensures) (high .first-starting-behind .ensures) in
-    (low-high p .0, omega (arith, low-high p, start .pre .table .held, start .good))
+    let start = high .before .before .before .before .before in
+    let p = placed (start .pre .0) (start .pre .1) (high .before .last-byte .ensures) (high .first-starting-behind .ensures) in
+    (low-high p .0, omega (arith, low-high p, start .pre .0 .table .held, start .good))
 
 mul-if2 : tie.Need-mul-if2
 mul-if2 c =
     let counted = c .before .before in
     let new = counted .before in
     let high = new .before .before in
-    let low = high .before .before .before in
-    let start = low .before .before .before .before in
-    let p = placed (start .pre) (low .first-ending-behind .ensures) (high .before .last-byte .ensures) (high .first-starting-behind .ensures) in
-    omega (arith, c .operations-number .ensures, low-high p, start .pre .table .held, start .good, new-most (start .args .r))
+    let start = high .before .before .before .before .before in
+    let p = placed (start .pre .0) (start .pre .1) (high .before .last-byte .ensures) (high .first-starting-behind .ensures) in
+    omega (arith, c .operations-number .ensures, low-high p, start .pre .0 .table .held, start .good, new-most (start .args .r))
 
 same-length-2 : tie.Need-same-length-2
 same-length-2 c = search needs
@@ -102,9 +92,8 @@ returns-2 c =
     let counted = c .before .before .before in
     let new = counted .before in
     let high = new .before .before in
-    let low = high .before .before .before in
-    let start = low .before .before .before .before in
-    let p = placed (start .pre) (low .first-ending-behind .ensures) (high .before .last-byte .ensures) (high .first-starting-behind .ensures) in
+    let start = high .before .before .before .before .before in
+    let p = placed (start .pre .0) (start .pre .1) (high .before .last-byte .ensures) (high .first-starting-behind .ensures) in
     short p (start .args .operations .now) (new .replacement .ensures) (counted .replacement-length .ensures .0) (omega (arith, c .before .before .if1 .left))
     (c .before .operations-number .ensures) (omega (arith, c .if2 .taken))
 
@@ -113,17 +102,16 @@ write-operations-requires c κs =
     let counted = c .before .before .before .before .before in
     let new = counted .before in
     let high = new .before .before in
-    let low = high .before .before .before in
-    let start = low .before .before .before .before in
-    let p = placed (start .pre) (low .first-ending-behind .ensures) (high .before .last-byte .ensures) (high .first-starting-behind .ensures) in
+    let start = high .before .before .before .before .before in
+    let p = placed (start .pre .0) (start .pre .1) (high .before .last-byte .ensures) (high .first-starting-behind .ensures) in
     record {
       count = start .args .count;
-      table = start .pre .table;
+      table = start .pre .0 .table;
       low = low-high p .0;
       high = low-high p .1;
-      not-empty = start .pre .not-empty;
-      stop-most = start .pre .stop-most;
-      offset-most = start .pre .offset-most;
+      not-empty = start .pre .0 .not-empty;
+      stop-most = start .pre .0 .stop-most;
+      offset-most = start .pre .0 .offset-most;
       room = fits-places p (start .args .operations .now) (new .replacement .ensures) (counted .replacement-length .ensures .0) (c .before .before .before .operations-number .ensures)
           (omega (arith, c .before .before .if2 .left));
     }
@@ -133,14 +121,13 @@ splice-requires c κs =
     let counted = c .before .before .before .before .before .before .before .before .before in
     let new = counted .before in
     let high = new .before .before in
-    let low = high .before .before .before in
-    let start = low .before .before .before .before in
-    let p = placed (start .pre) (low .first-ending-behind .ensures) (high .before .last-byte .ensures) (high .first-starting-behind .ensures) in
+    let start = high .before .before .before .before .before in
+    let p = placed (start .pre .0) (start .pre .1) (high .before .last-byte .ensures) (high .first-starting-behind .ensures) in
     record {
       low = omega (arith, low-high p);
       high = omega (arith, low-high p);
-      held = start .pre .table .held;
-      behind = start .pre .behind;
+      held = start .pre .0 .table .held;
+      behind = start .pre .0 .behind;
       room = omega (arith, c .before .before .before .before .before .before .before .before .if1 .left, counted .replacement-length .ensures .0);
     }
 
@@ -158,9 +145,8 @@ returns-3 c =
     let counted = c .before .before .before .before .before .before .before .before .before .before .before .before in
     let new = counted .before in
     let high = new .before .before in
-    let low = high .before .before .before in
-    let start = low .before .before .before .before in
-    let p = placed (start .pre) (low .first-ending-behind .ensures) (high .before .last-byte .ensures) (high .first-starting-behind .ensures) in
+    let start = high .before .before .before .before .before in
+    let p = placed (start .pre .0) (start .pre .1) (high .before .last-byte .ensures) (high .first-starting-behind .ensures) in
     carried-out p (start .args .operations .now) (new .replacement .ensures) (counted .replacement-length .ensures .0) (omega (arith, numbered .before .if1 .left))
     (numbered .operations-number .ensures) (omega (arith, wrote .before .before .before .if2 .left)) (wrote .write-operations .ensures) (spliced .splice .ensures)
 
@@ -168,7 +154,6 @@ pub change-spec : {M : Type 1} → statement M
 change-spec =
     tie.close
     (tie.spec
-    first-ending-behind-requires
     last-byte-requires
     first-starting-behind-requires
     replacement-requires

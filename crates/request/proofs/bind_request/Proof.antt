@@ -18,14 +18,25 @@ enum-known-w c = search needs
 enum-told : tie.Need-enum-told
 enum-told c = search needs
 
-cut-table-requires : tie.Need-cut-table-requires
-cut-table-requires c κs =
-    let passed = c .before .before .before .before in
+first-place-requires : tie.Need-first-place-requires
+first-place-requires c κs =
+    let passed = c .before .before .before in
     let checked = passed .before .before in
     let start = checked .before .before .before .before .before in
     let a = start .args in
-    ready-there (a .s) (lentWords (a .ranges .now) (a .range-count) (a .table .now) (a .count)) (a .operations .now) (a .r) (a .known) (start .pre)
-    (sym (ap verdictReply (passed .enum-told .given .1)) ∙ checked .bind-verdict .ensures)
+    let ready = ready-there (a .s) (lentWords (a .ranges .now) (a .range-count) (a .table .now) (a .count)) (a .operations .now) (a .r) (a .known) (start .pre)
+            (sym (ap verdictReply (passed .enum-told .given .1)) ∙ checked .bind-verdict .ensures) in
+    (ready .table, λ e. start .pre e .2)
+
+cut-table-requires : tie.Need-cut-table-requires
+cut-table-requires c κs =
+    let found = c .before .before in
+    let passed = found .before .before .before .before in
+    let checked = passed .before .before in
+    let start = checked .before .before .before .before .before in
+    let a = start .args in
+    (ready-there (a .s) (lentWords (a .ranges .now) (a .range-count) (a .table .now) (a .count)) (a .operations .now) (a .r) (a .known) (start .pre)
+    (sym (ap verdictReply (passed .enum-told .given .1)) ∙ checked .bind-verdict .ensures), found .first-place .ensures)
 
 same-length : tie.Need-same-length
 same-length c = search needs
@@ -36,7 +47,7 @@ same-length-2 c = search needs
 returns : tie.Need-returns
 returns c =
     let cut = c .before .before .before .before in
-    let plain = cut .before .before .before in
+    let plain = cut .before .before .before .before .before in
     let passed = plain .before .before in
     let checked = passed .before .before in
     let a = checked .before .before .before .before .before .args in
@@ -73,6 +84,7 @@ bind-request-spec =
     bind-verdict-requires
     enum-known-w
     enum-told
+    first-place-requires
     cut-table-requires
     same-length
     same-length-2
