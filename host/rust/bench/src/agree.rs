@@ -3,6 +3,7 @@
 
 use crate::line::{lines, Call, Line};
 use crate::manager::{contenders, lent, Bound, Contender, Grant, Looked, TREE};
+use crate::timed::Timed;
 use waylluqen::{Refusal, Shown};
 use waylluqen_compare::calls::{model_answer, model_look, Asking};
 use waylluqen_compare::library::{self, change_lent, change_table, write_operations};
@@ -132,7 +133,7 @@ fn compare_line(line: &Line) {
                     offset: given.offset,
                     flags: given.flags,
                 };
-                let list_words = line.list().len();
+                let list_words = line.lent().len();
                 let answer = compare_bind(&table, &request, list_words);
                 assert!(answer.is_ok(), "{}", line.name());
                 let bound = model_answer(&table, list_words, Asking::Numbers(request));

@@ -1,14 +1,12 @@
 //! Instructions a call, counted by valgrind: the same in every run of the same program.
 
-use crate::line::Line;
-use crate::manager::{Contender, Manager};
-use crate::timing::make_calls;
+use crate::timed::{Contenders, Timed};
 use std::fs;
 use std::hint::black_box;
 use std::path::Path;
 use std::process::{Command, Stdio};
 
-/// The argument with which this program runs itself under valgrind.
+/// The argument, in front of a kind of lines, with which this program runs itself under valgrind.
 pub const COUNT: &str = "count";
 
 /// Has the C library move and clear long runs in a loop: of an instruction that repeats itself
@@ -18,21 +16,21 @@ const IN_A_LOOP: &str = "glibc.cpu.x86_rep_movsb_threshold=1000000000:\
 
 /// What valgrind counts, from its first instruction to its last.
 #[inline(never)]
-fn counted_calls(manager: &mut dyn Manager, line: &Line, list: &mut [u64]) {
-    make_calls(manager, line, list);
+fn counted_calls<L: Timed>(line: &L, manager: &mut L::Manager, lent: &mut [u64]) {
+    line.make_calls(manager, lent);
     // Not a jump to the last call, which valgrind would not see return.
-    black_box(list);
+    black_box(lent);
 }
 
 /// Makes the calls of each line with each contender once, to be counted.
-pub fn make_counted_calls(contenders: &[&Contender], lines: &[Line]) {
+pub fn make_counted_calls<L: Timed>(contenders: &Contenders<L>, lines: &[L]) {
     for line in lines {
-        let mut list = line.list();
+        let mut lent = line.lent();
         for contender in contenders {
-            let mut manager = (contender.begin)(&line.table);
+            let mut manager = (contender.begin)(line.table());
             // Once before, so that what is done at first only is not counted.
-            make_calls(&mut *manager, line, &mut list);
-            counted_calls(&mut *manager, line, &mut list);
+            line.make_calls(&mut *manager, &mut lent);
+            counted_calls(line, &mut *manager, &mut lent);
         }
     }
 }
@@ -46,7 +44,11 @@ fn instructions(file: &Path) -> Option<f64> {
 
 /// For each line the instructions a call of each contender; nothing without valgrind. The files
 /// that it writes go to a folder of their own, which is made anew.
-pub fn count(contenders: &[&Contender], lines: &[Line], folder: &Path) -> Option<Vec<Vec<f64>>> {
+pub fn count<L: Timed>(
+    contenders: &Contenders<L>,
+    lines: &[L],
+    folder: &Path,
+) -> Option<Vec<Vec<f64>>> {
     let _ = fs::remove_dir_all(folder);
     fs::create_dir_all(folder).ok()?;
     let file = folder.join("counted");
@@ -62,7 +64,7 @@ pub fn count(contenders: &[&Contender], lines: &[Line], folder: &Path) -> Option
     }
     let status = valgrind
         .arg(std::env::current_exe().ok()?)
-        .arg(COUNT)
+        .args([COUNT, L::KIND])
         .stderr(Stdio::null())
         .status();
     if !status.is_ok_and(|status| status.success()) {
@@ -74,6 +76,6 @@ pub fn count(contenders: &[&Contender], lines: &[Line], folder: &Path) -> Option
         let counted = instructions(&folder.join(format!("counted.{dump}")))?;
         Some(counted / calls as f64)
     };
-    let of_line = |line: &Line| contenders.iter().map(|_| next(line.calls.len())).collect();
+    let of_line = |line: &L| contenders.iter().map(|_| next(line.calls())).collect();
     lines.iter().map(of_line).collect()
 }

@@ -5,7 +5,8 @@ mod axis;
 mod curve;
 
 use crate::line::{Line, SIZES};
-use crate::report::{LIBRARY, TREE};
+use crate::report::TREE;
+use crate::timed::LIBRARY;
 use crate::timing::Times;
 use axis::{decades, grouped, range, Axis};
 use curve::STYLES;
@@ -171,7 +172,7 @@ pub fn panels(lines: &[Line], times: &[Times]) -> Vec<Panel> {
             what: lines[0].what,
             curves: [
                 array::from_fn(|size| median(size, LIBRARY)),
-                array::from_fn(|size| median(size, times[size].quickest_plain())),
+                array::from_fn(|size| median(size, times[size].quickest_plain::<Line>())),
                 array::from_fn(|size| median(size, TREE)),
             ],
         }

@@ -1,5 +1,8 @@
 //! The lines of the table: which calls are timed, on which mappings.
 
+use crate::manager::{Manager, PLAIN};
+use crate::timed::Timed;
+use std::hint::black_box;
 use waylluqen::{operation_list_words, Request, MAPPING_WORDS};
 use waylluqen_compare::library;
 use waylluqen_compare::lists::List;
@@ -46,14 +49,46 @@ impl Line {
             calls,
         }
     }
+}
 
-    pub fn name(&self) -> String {
-        format!("{}, {}", self.what, self.room)
+impl Timed for Line {
+    type Manager = dyn Manager;
+    const KIND: &'static str = "calls";
+    const PLAIN: usize = PLAIN.len();
+
+    fn what(&self) -> &'static str {
+        self.what
+    }
+
+    fn room(&self) -> usize {
+        self.room
+    }
+
+    fn table(&self) -> &Table {
+        &self.table
     }
 
     /// Words for the operations of a request.
-    pub fn list(&self) -> Vec<u64> {
+    fn lent(&self) -> Vec<u64> {
         vec![0; operation_list_words(self.room)]
+    }
+
+    fn calls(&self) -> usize {
+        self.calls.len()
+    }
+
+    #[inline(never)]
+    fn make_calls(&self, manager: &mut Self::Manager, list: &mut [u64]) {
+        for call in &self.calls {
+            match *black_box(call) {
+                Call::Bind(request) => {
+                    let _ = black_box(manager.bind(self.space, request, list));
+                }
+                Call::Lookup(address) => {
+                    black_box(manager.look_up(self.space, address));
+                }
+            }
+        }
     }
 }
 

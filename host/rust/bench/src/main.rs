@@ -6,6 +6,7 @@
 mod agree;
 mod count;
 mod cut;
+mod figures;
 mod growth;
 mod line;
 mod manager;
@@ -14,13 +15,17 @@ mod report;
 mod rules;
 mod script;
 mod seen;
+mod timed;
 mod timing;
 mod tree;
 
+use figures::Figures;
+use line::Line;
 use std::env;
 use std::fs;
 use std::path::Path;
 use std::process::ExitCode;
+use timed::Timed;
 
 /// Where what is written goes; `host/bench` makes it.
 const FOLDER: &str = "BENCH_FOLDER";
@@ -35,11 +40,9 @@ fn write_growth(file: &Path, picture: &str) -> Result<(), String> {
 
 fn print_all(folder: &Path) -> Result<(), String> {
     agree::assert_equal();
-    let (contenders, lines) = (manager::contenders(), line::lines());
-    let counts = count::count(&contenders, &lines, &folder.join("counts"));
-    let times = timing::measure(&contenders, &lines);
-    report::print_calls(&contenders, &lines, &times, counts.as_deref());
-    let growth = growth::draw(&growth::panels(&lines, &times));
+    let calls = Figures::measure(&manager::contenders(), line::lines(), folder);
+    report::print_calls(&calls);
+    let growth = growth::draw(&growth::panels(&calls.lines, &calls.times));
     write_growth(&folder.join("growth.svg"), &growth)?;
     let measured = script::measure(&folder.join("million.script"));
     report::print_script(&measured.map_err(|error| format!("the script program: {error}"))?);
@@ -50,7 +53,7 @@ fn main() -> ExitCode {
     let words: Vec<String> = env::args().skip(1).collect();
     let words: Vec<&str> = words.iter().map(String::as_str).collect();
     match (&words[..], env::var_os(FOLDER)) {
-        ([count::COUNT], _) => {
+        ([count::COUNT, Line::KIND], _) => {
             count::make_counted_calls(&manager::contenders(), &line::lines());
             ExitCode::SUCCESS
         }

@@ -1,6 +1,7 @@
 //! What is timed: managers of one address space, the library's and plain ones beside it.
 
 use crate::plain::{Checked, Folded, Joined, Masked, Merged, Plain};
+use crate::timed;
 use crate::tree::Tree;
 use waylluqen::{Ranges, Refusal, Request, Seen, Shown, Space};
 use waylluqen_compare::tables::Table;
@@ -42,11 +43,7 @@ pub trait Manager {
     fn table(&self) -> (Vec<u64>, u64);
 }
 
-pub struct Contender {
-    pub name: &'static str,
-    /// A manager of the mappings and the list of a table.
-    pub begin: fn(&Table) -> Box<dyn Manager>,
-}
+pub type Contender = timed::Contender<dyn Manager>;
 
 pub const LIBRARY: Contender = Contender {
     name: "library",
@@ -96,35 +93,26 @@ pub fn contenders() -> Vec<&'static Contender> {
     lent().chain([&TREE]).collect()
 }
 
-/// Among the contenders, the place of the plain version for which a number is lowest.
-pub fn lowest_plain(number: impl Fn(usize) -> f64) -> usize {
-    (1..=PLAIN.len())
-        .min_by(|&one, &other| number(one).total_cmp(&number(other)))
-        .expect("there is a plain version")
-}
-
 struct Library {
     table: Table,
 }
 
-impl Library {
-    /// What is lent to a call. A list of no word is the one that a table has by itself.
-    #[inline]
-    fn lent(&mut self) -> waylluqen::Table<'_> {
-        let Table {
-            words, count, list, ..
-        } = &mut self.table;
-        let lent = waylluqen::Table::with_count(words, *count);
-        match list.is_none() {
-            true => lent,
-            false => lent.with_ranges(Ranges::with_count(&mut list.words, list.count)),
-        }
+/// What is lent to a call of the library. A list of no word is the one that a table has by itself.
+#[inline]
+pub fn lent_types(table: &mut Table) -> waylluqen::Table<'_> {
+    let Table {
+        words, count, list, ..
+    } = table;
+    let lent = waylluqen::Table::with_count(words, *count);
+    match list.is_none() {
+        true => lent,
+        false => lent.with_ranges(Ranges::with_count(&mut list.words, list.count)),
     }
 }
 
 impl Manager for Library {
     fn bind(&mut self, space: Space, request: Request, list: &mut [u64]) -> Bound {
-        let mut table = self.lent();
+        let mut table = lent_types(&mut self.table);
         let operations = table.bind(space, request, list)?.len() as u64;
         let count = table.count();
         self.table.count = count;
@@ -132,7 +120,7 @@ impl Manager for Library {
     }
 
     fn lookup(&mut self, space: Space, address: u64) -> Looked {
-        self.lent().lookup(space, address)
+        lent_types(&mut self.table).lookup(space, address)
     }
 
     fn table(&self) -> (Vec<u64>, u64) {

@@ -1,12 +1,13 @@
 //! The tables as docs/BENCHMARKS.md has them.
 
+use crate::figures::{Figures, Ratios};
 use crate::line::Line;
-use crate::manager::{lowest_plain, Contender, PLAIN};
+use crate::manager::PLAIN;
 use crate::script::Measured;
-use crate::timing::{Spread, Times};
+use crate::timed::{Timed, LIBRARY};
+use crate::timing::Spread;
 
-/// The places of the library, of the plain versions and of the tree among the contenders.
-pub const LIBRARY: usize = 0;
+/// The place of the tree among the contenders for single calls.
 pub const TREE: usize = PLAIN.len() + 1;
 
 /// From so many mappings on we hold ourselves to the quickest plain version.
@@ -20,71 +21,36 @@ fn head(columns: &[&str]) {
     println!("|{}", "---|".repeat(columns.len()));
 }
 
-/// The quickest plain version, and the library's time by its.
-fn by_time(times: &Times) -> (usize, Spread) {
-    let quickest = times.quickest_plain();
-    (quickest, times.ratio(LIBRARY, quickest))
-}
-
-/// The plain version of the fewest instructions, and the library's by its.
-fn by_instructions(counts: &[f64]) -> (usize, f64) {
-    let fewest = lowest_plain(|at| counts[at]);
-    (fewest, counts[LIBRARY] / counts[fewest])
-}
-
-fn print_summary(line: &Line, times: &Times, counts: Option<&Vec<f64>>, names: &[&str]) {
-    let median = |at| times.of_call(at).median;
-    let (quickest, ratio) = by_time(times);
-    print!(
-        "| {} | {} | {:.0} | {:.0} ({}) | {:.0} | {:.2} | {:.2} to {:.2} | {:.2} | {:.2} |",
-        line.what,
-        line.room,
-        median(LIBRARY),
-        median(quickest),
-        names[quickest],
-        median(TREE),
-        ratio.median,
-        ratio.low,
-        ratio.high,
-        times.ratio(LIBRARY, TREE).median,
-        median(LIBRARY) / line.room as f64,
-    );
-    if let Some(counts) = counts {
-        let (fewest, ratio) = by_instructions(counts);
-        print!(
-            " {:.0} | {:.0} ({}) | {:.0} | {ratio:.2} |",
-            counts[LIBRARY], counts[fewest], names[fewest], counts[TREE]
-        );
+/// A line for each line of calls: what it is, and these figures of it.
+pub fn print_lines<L: Timed>(
+    lines: &[L],
+    columns: &[&str],
+    figures: impl Fn(usize, &L) -> Vec<String>,
+) {
+    head(&[&["calls", "mappings"], columns].concat());
+    for (place, line) in lines.iter().enumerate() {
+        let figures = figures(place, line).join(" | ");
+        println!("| {} | {} | {figures} |", line.what(), line.room());
     }
-    println!();
+}
+
+/// The range that holds 8 of 10 rounds.
+pub fn most_rounds(ratio: &Spread) -> String {
+    format!("{:.2} to {:.2}", ratio.low, ratio.high)
 }
 
 fn is_full(line: &Line) -> bool {
     line.table.count as usize + FREE >= line.room
 }
 
-/// The highest ratio of the full tables, which we hold ourselves to, or of the others, with its
-/// line. Those with sparse ranges stand for themselves.
-fn highest(lines: &[Line], ratios: &[f64], full: bool) -> (f64, String) {
-    let held = lines.iter().zip(ratios);
-    let held = held.filter(|(line, _)| line.table.list.is_none());
-    let held = held.filter(|(line, _)| line.room >= HELD_FROM && is_full(line) == full);
-    let highest = held.max_by(|(_, one), (_, other)| one.total_cmp(other));
-    let (line, ratio) = highest.expect("there are such lines");
-    (*ratio, line.name())
+/// Whether we hold ourselves to this line. Those with sparse ranges stand for themselves.
+fn is_held(line: &Line) -> bool {
+    line.table.list.is_none() && line.room >= HELD_FROM
 }
 
 /// How near the library is to the quickest plain version where it is furthest from it.
-fn verdict(lines: &[Line], by_time: &[f64], by_instructions: Option<&[f64]>) -> String {
-    let most = |full: bool| {
-        let of = |ratios: &[f64], what: &str| {
-            let (ratio, line) = highest(lines, ratios, full);
-            format!("{ratio:.2} by {what} ({line})")
-        };
-        let mut most_of_each = vec![of(by_time, "time")];
-        most_of_each.extend(by_instructions.map(|ratios| of(ratios, "instructions")));
-        most_of_each.join(" and ")
-    };
+fn verdict(lines: &[Line], ratios: &Ratios) -> String {
+    let most = |full: bool| ratios.most(lines, |line| is_held(line) && is_full(line) == full);
     format!(
         "From {HELD_FROM} mappings on, of the quickest plain version at most {}; \
          with few or none in so much room {}.",
@@ -93,34 +59,63 @@ fn verdict(lines: &[Line], by_time: &[f64], by_instructions: Option<&[f64]>) -> 
     )
 }
 
-fn print_verdict(lines: &[Line], times: &[Times], counts: Option<&[Vec<f64>]>) {
-    let times: Vec<f64> = times.iter().map(|times| by_time(times).1.median).collect();
-    let instructions = |counts: &Vec<f64>| by_instructions(counts).1;
-    let counts: Option<Vec<f64>> = counts.map(|counts| counts.iter().map(instructions).collect());
-    println!("\n{}", verdict(lines, &times, counts.as_deref()));
+/// Every contender's number for every line.
+fn print_each<L: Timed>(
+    what: &str,
+    figures: &Figures<L>,
+    digits: usize,
+    number: impl Fn(usize, usize) -> f64,
+) {
+    println!("\n{what}:\n");
+    print_lines(&figures.lines, &figures.names, |place, _| {
+        (0..figures.names.len())
+            .map(|at| format!("{:.digits$}", number(place, at)))
+            .collect()
+    });
 }
 
-/// Every contender's number for every line.
-fn print_each(what: &str, lines: &[Line], names: &[&str], number: impl Fn(usize, usize) -> f64) {
-    println!("\n{what}:\n");
-    head(&[&["calls", "mappings"], names].concat());
-    for (place, line) in lines.iter().enumerate() {
-        let numbers: Vec<String> = (0..names.len())
-            .map(|at| format!("{:.0}", number(place, at)))
-            .collect();
-        println!(
-            "| {} | {} | {} |",
-            line.what,
-            line.room,
-            numbers.join(" | ")
-        );
+/// The times and the instructions of every contender: for so many nanoseconds at a time, with so
+/// many digits.
+pub fn print_all<L: Timed>(figures: &Figures<L>, [times, counts]: [&str; 2], unit: (f64, usize)) {
+    let (nanoseconds, digits) = unit;
+    print_each(times, figures, digits, |place, at| {
+        figures.times[place].of_call(at).median / nanoseconds
+    });
+    match &figures.counts {
+        Some(of_lines) => print_each(counts, figures, 0, |place, at| of_lines[place][at]),
+        None => println!("\nInstructions are not counted: valgrind could not be run."),
     }
 }
 
-fn print_summaries(lines: &[Line], times: &[Times], counts: Option<&[Vec<f64>]>, names: &[&str]) {
+/// The figures of a line of single calls.
+fn summary(figures: &Figures<Line>, place: usize, line: &Line) -> Vec<String> {
+    let (times, names) = (&figures.times[place], &figures.names);
+    let median = |at| times.of_call(at).median;
+    let (quickest, ratio) = figures.by_time(place);
+    let mut summary = vec![
+        format!("{:.0}", median(LIBRARY)),
+        format!("{:.0} ({})", median(quickest), names[quickest]),
+        format!("{:.0}", median(TREE)),
+        format!("{:.2}", ratio.median),
+        most_rounds(&ratio),
+        format!("{:.2}", times.ratio(LIBRARY, TREE).median),
+        format!("{:.2}", median(LIBRARY) / line.room as f64),
+    ];
+    if let (Some(counts), Some((fewest, ratio))) = (&figures.counts, figures.by_instructions(place))
+    {
+        let counts = &counts[place];
+        summary.extend([
+            format!("{:.0}", counts[LIBRARY]),
+            format!("{:.0} ({})", counts[fewest], names[fewest]),
+            format!("{:.0}", counts[TREE]),
+            format!("{ratio:.2}"),
+        ]);
+    }
+    summary
+}
+
+pub fn print_calls(figures: &Figures<Line>) {
     let mut columns = vec![
-        "calls",
-        "mappings",
         "library, ns",
         "quickest plain",
         "BTreeMap",
@@ -129,7 +124,7 @@ fn print_summaries(lines: &[Line], times: &[Times], counts: Option<&[Vec<f64>]>,
         "library / BTreeMap",
         "ns a mapping",
     ];
-    if counts.is_some() {
+    if figures.counts.is_some() {
         columns.extend([
             "library, instructions",
             "fewest plain",
@@ -137,31 +132,12 @@ fn print_summaries(lines: &[Line], times: &[Times], counts: Option<&[Vec<f64>]>,
             "library / plain",
         ]);
     }
-    head(&columns);
-    for (place, line) in lines.iter().enumerate() {
-        let counts = counts.map(|counts| &counts[place]);
-        print_summary(line, &times[place], counts, names);
-    }
-}
-
-pub fn print_calls(
-    contenders: &[&Contender],
-    lines: &[Line],
-    times: &[Times],
-    counts: Option<&[Vec<f64>]>,
-) {
-    let names: Vec<&str> = contenders.iter().map(|contender| contender.name).collect();
-    print_summaries(lines, times, counts, &names);
-    print_verdict(lines, times, counts);
-    print_each("Nanoseconds a call", lines, &names, |place, at| {
-        times[place].of_call(at).median
+    print_lines(&figures.lines, &columns, |place, line| {
+        summary(figures, place, line)
     });
-    match counts {
-        Some(counts) => print_each("Instructions a call", lines, &names, |place, at| {
-            counts[place][at]
-        }),
-        None => println!("\nInstructions are not counted: valgrind could not be run."),
-    }
+    println!("\n{}", verdict(&figures.lines, &figures.ratios()));
+    let titles = ["Nanoseconds a call", "Instructions a call"];
+    print_all(figures, titles, (1.0, 0));
 }
 
 pub fn print_script(measured: &Measured) {
@@ -228,15 +204,19 @@ mod tests {
         let times = ratios(&lines, ("the same at the front, 4096", 0.886), empty);
         let small = ("look-up among 16, 64", 0.518);
         let counts = ratios(&lines, ("look-up, 64", 1.034), small);
+        let ratios = |by_instructions| Ratios {
+            by_time: times.clone(),
+            by_instructions,
+        };
         assert_eq!(
-            verdict(&lines, &times, Some(&counts)),
+            verdict(&lines, &ratios(Some(counts))),
             "From 64 mappings on, of the quickest plain version at most 0.89 by time \
              (the same at the front, 4096) and 1.03 by instructions (look-up, 64); \
              with few or none in so much room 2.21 by time (map into an empty table, 256) \
              and 0.52 by instructions (look-up among 16, 64)."
         );
         assert_eq!(
-            verdict(&lines, &times, None),
+            verdict(&lines, &ratios(None)),
             "From 64 mappings on, of the quickest plain version at most 0.89 by time \
              (the same at the front, 4096); \
              with few or none in so much room 2.21 by time (map into an empty table, 256)."

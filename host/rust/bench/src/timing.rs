@@ -1,15 +1,13 @@
 //! Times of several contenders, taken in turn in one run.
 
-use crate::line::{Call, Line};
-use crate::manager::{lowest_plain, Contender, Manager};
-use std::hint::black_box;
+use crate::timed::{lowest_plain, Contenders, Timed};
 use std::time::Instant;
 
 /// How often each contender is timed on each line.
 const ROUNDS: usize = 1000;
 
 /// About how long one timing takes: long beside the clock, short beside what else the machine does.
-const BATCH_NANOSECONDS: f64 = 50_000.0;
+const TIMING_NANOSECONDS: f64 = 50_000.0;
 
 /// Of many numbers the middle one, and those that a tenth is below and above.
 pub struct Spread {
@@ -46,8 +44,8 @@ impl Times {
     }
 
     /// The plain version whose middle time is the lowest.
-    pub fn quickest_plain(&self) -> usize {
-        lowest_plain(|at| self.of_call(at).median)
+    pub fn quickest_plain<L: Timed>(&self) -> usize {
+        lowest_plain::<L>(|at| self.of_call(at).median)
     }
 
     /// One contender's time by another's, in each round by itself.
@@ -57,58 +55,43 @@ impl Times {
     }
 }
 
-/// Makes the calls of a line once, which leaves the table as it was.
-#[inline(never)]
-pub fn make_calls(manager: &mut dyn Manager, line: &Line, list: &mut [u64]) {
-    for call in &line.calls {
-        match *black_box(call) {
-            Call::Bind(request) => {
-                let _ = black_box(manager.bind(line.space, request, list));
-            }
-            Call::Lookup(address) => {
-                black_box(manager.look_up(line.space, address));
-            }
-        }
-    }
-}
-
-/// A line with a manager for each contender, and words that all write their operations to.
-struct Timed<'a> {
-    line: &'a Line,
-    managers: Vec<Box<dyn Manager>>,
-    list: Vec<u64>,
-    /// How often the calls are made in a batch.
+/// A line with a manager for each contender, and the words that are lent to all of them.
+struct Field<'a, L: Timed> {
+    line: &'a L,
+    managers: Vec<Box<L::Manager>>,
+    lent: Vec<u64>,
+    /// How often the calls are made in a timing.
     times: u32,
 }
 
-impl<'a> Timed<'a> {
-    fn new(contenders: &[&Contender], line: &'a Line) -> Timed<'a> {
-        let begin = |contender: &&Contender| (contender.begin)(&line.table);
-        let mut timed = Timed {
+impl<'a, L: Timed> Field<'a, L> {
+    fn new(contenders: &Contenders<L>, line: &'a L) -> Field<'a, L> {
+        let begin = contenders.iter().map(|contender| contender.begin);
+        let mut field = Field {
             line,
-            managers: contenders.iter().map(begin).collect(),
-            list: line.list(),
+            managers: begin.map(|begin| begin(line.table())).collect(),
+            lent: line.lent(),
             times: 1,
         };
-        // The first time warms up, and the second tells how many take as long as a batch should.
-        timed.times = (1000 / line.calls.len()) as u32;
-        timed.time(0);
-        let of_call = timed.time(0);
-        timed.times = (BATCH_NANOSECONDS / (of_call * line.calls.len() as f64)).ceil() as u32;
-        timed
+        // The first time warms up, and the second tells how many take as long as a timing should.
+        field.times = (1000 / line.calls()) as u32;
+        field.time(0);
+        let of_call = field.time(0);
+        field.times = (TIMING_NANOSECONDS / (of_call * line.calls() as f64)).ceil() as u32;
+        field
     }
 
-    /// Nanoseconds a call of one contender, in a batch.
+    /// Nanoseconds a call of one contender.
     fn time(&mut self, contender: usize) -> f64 {
         let manager = &mut *self.managers[contender];
-        // Once before: since its last batch all the other tables were used, some 9 MB, and this one
+        // Once before: since its last timing all the other tables were used, some 9 MB, and this one
         // went to a cache further away. At 4,096 mappings a call would take half as long again.
-        make_calls(manager, self.line, &mut self.list);
+        self.line.make_calls(manager, &mut self.lent);
         let start = Instant::now();
         for _ in 0..self.times {
-            make_calls(manager, self.line, &mut self.list);
+            self.line.make_calls(manager, &mut self.lent);
         }
-        let calls = f64::from(self.times) * self.line.calls.len() as f64;
+        let calls = f64::from(self.times) * self.line.calls() as f64;
         start.elapsed().as_nanos() as f64 / calls
     }
 
@@ -125,13 +108,13 @@ impl<'a> Timed<'a> {
 
 /// The times of each line. A round goes through all lines, so that what else the machine does
 /// meanwhile meets them all alike.
-pub fn measure(contenders: &[&Contender], lines: &[Line]) -> Vec<Times> {
-    let timed = lines.iter().map(|line| Timed::new(contenders, line));
-    let mut timed: Vec<Timed> = timed.collect();
-    let mut all: Vec<Times> = timed.iter().map(|_| Times { rounds: Vec::new() }).collect();
+pub fn measure<L: Timed>(contenders: &Contenders<L>, lines: &[L]) -> Vec<Times> {
+    let fields = lines.iter().map(|line| Field::new(contenders, line));
+    let mut fields: Vec<Field<L>> = fields.collect();
+    let mut all: Vec<Times> = lines.iter().map(|_| Times { rounds: Vec::new() }).collect();
     for first in 0..ROUNDS {
-        for (times, timed) in all.iter_mut().zip(&mut timed) {
-            times.rounds.push(timed.round(first));
+        for (times, field) in all.iter_mut().zip(&mut fields) {
+            times.rounds.push(field.round(first));
         }
     }
     all
