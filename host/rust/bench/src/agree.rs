@@ -27,7 +27,7 @@ fn answer(bound: &library::Bound) -> Bound {
 }
 
 /// Whether a map can hold the table: its addresses ascend, and behind its mappings are zeros.
-fn has_tree(table: &Table) -> bool {
+pub fn has_tree(table: &Table) -> bool {
     let Some(words) = usize::try_from(table.count)
         .ok()
         .and_then(|count| count.checked_mul(MAPPING_WORDS))

@@ -120,7 +120,8 @@ pub fn space_and_mappings(count: usize) -> (Space, Vec<[u64; MAPPING_WORDS]>) {
     (space, mappings)
 }
 
-fn table(space: Space, mappings: &[[u64; MAPPING_WORDS]], room: usize) -> Table {
+/// These mappings, and zeros up to the room.
+pub fn table(space: Space, mappings: &[[u64; MAPPING_WORDS]], room: usize) -> Table {
     let mut words = mappings.concat();
     words.resize(room * MAPPING_WORDS, 0);
     Table {
@@ -131,17 +132,31 @@ fn table(space: Space, mappings: &[[u64; MAPPING_WORDS]], room: usize) -> Table 
     }
 }
 
-/// The calls for a mapping of three pages at a place: what they do, and what puts it back.
-type Change = fn([u64; MAPPING_WORDS]) -> Request;
+/// What is asked for at a mapping of three pages; [`back`] puts it back.
+pub type Change = fn([u64; MAPPING_WORDS]) -> Request;
 
 const OTHER_OBJECT: u64 = 99;
+
+pub fn replace([address, size, ..]: [u64; MAPPING_WORDS]) -> Request {
+    Request::map(address, size, OTHER_OBJECT, 0)
+}
+
+pub fn split([address, ..]: [u64; MAPPING_WORDS]) -> Request {
+    Request::map(address + PAGE, PAGE, OTHER_OBJECT, 0)
+}
+
+pub fn unmap([address, size, ..]: [u64; MAPPING_WORDS]) -> Request {
+    Request::unmap(address, size)
+}
+
+pub fn back([address, size, object, offset]: [u64; MAPPING_WORDS]) -> Request {
+    Request::map(address, size, object, offset)
+}
 
 fn line(what: &'static str, room: usize, count: usize, place: usize, change: Change) -> Line {
     let (space, mappings) = space_and_mappings(count);
     let old = mappings[place];
-    let [address, size, object, offset] = old;
-    let back = Request::map(address, size, object, offset);
-    let calls = vec![Call::Bind(change(old)), Call::Bind(back)];
+    let calls = vec![Call::Bind(change(old)), Call::Bind(back(old))];
     Line::new(what, room, table(space, &mappings, room), calls)
 }
 
@@ -179,9 +194,6 @@ fn middle_of(count: usize) -> usize {
 /// The lines of a table with so much room.
 fn lines_of(room: usize) -> [Line; 8] {
     let middle = middle_of(room);
-    let replace: Change = |[address, size, ..]| Request::map(address, size, OTHER_OBJECT, 0);
-    let split: Change = |[address, ..]| Request::map(address + PAGE, PAGE, OTHER_OBJECT, 0);
-    let unmap: Change = |[address, size, ..]| Request::unmap(address, size);
     [
         line("map over one mapping", room, room, middle, replace),
         line("map into one and undo", room, room - 2, middle, split),

@@ -4,6 +4,7 @@
 #![forbid(unsafe_code)]
 
 mod agree;
+mod batch;
 mod count;
 mod cut;
 mod figures;
@@ -40,10 +41,13 @@ fn write_growth(file: &Path, picture: &str) -> Result<(), String> {
 
 fn print_all(folder: &Path) -> Result<(), String> {
     agree::assert_equal();
+    batch::agree::assert_equal();
     let calls = Figures::measure(&manager::contenders(), line::lines(), folder);
     report::print_calls(&calls);
     let growth = growth::draw(&growth::panels(&calls.lines, &calls.times));
     write_growth(&folder.join("growth.svg"), &growth)?;
+    let batches = Figures::measure(&batch::contenders(), batch::lines(), folder);
+    batch::print(&batches);
     let measured = script::measure(&folder.join("million.script"));
     report::print_script(&measured.map_err(|error| format!("the script program: {error}"))?);
     Ok(())
@@ -55,6 +59,10 @@ fn main() -> ExitCode {
     match (&words[..], env::var_os(FOLDER)) {
         ([count::COUNT, Line::KIND], _) => {
             count::make_counted_calls(&manager::contenders(), &line::lines());
+            ExitCode::SUCCESS
+        }
+        ([count::COUNT, batch::Line::KIND], _) => {
+            count::make_counted_calls(&batch::contenders(), &batch::lines());
             ExitCode::SUCCESS
         }
         ([], Some(folder)) => match print_all(Path::new(&folder)) {

@@ -21,6 +21,11 @@ pub trait Way {
     fn hits(bounds: &Bounds, mappings: &[Mapping], first: u64, last: u64) -> Places;
 }
 
+/// A way to check the mappings of a table alone.
+pub trait Check {
+    fn check(bounds: &Bounds, mappings: &[Mapping]) -> Result<(), Refusal>;
+}
+
 /// Checks with a branch for each rule, then goes through the table once more.
 pub struct Checked;
 
@@ -38,7 +43,7 @@ pub struct Folded;
 pub struct Joined;
 
 /// The places by halves, in a table that keeps its rules.
-fn find(mappings: &[Mapping], first: u64, last: u64) -> Range<usize> {
+pub fn find(mappings: &[Mapping], first: u64, last: u64) -> Range<usize> {
     let low = mappings.partition_point(|mapping| mapping[0] + mapping[1] <= first);
     let behind = mappings[low..].iter();
     let hit = behind.take_while(|mapping| mapping[0] <= last).count();
@@ -122,8 +127,9 @@ fn find_bad(bounds: &Bounds, mappings: &[Mapping]) -> Result<(), Refusal> {
     bad.map_or(Ok(()), |place| Err(bad_mapping(place)))
 }
 
-impl Way for Folded {
-    fn hits(bounds: &Bounds, mappings: &[Mapping], first: u64, last: u64) -> Places {
+impl Check for Folded {
+    #[inline(always)]
+    fn check(bounds: &Bounds, mappings: &[Mapping]) -> Result<(), Refusal> {
         let mut floor = bounds.start;
         let mut broken = 0;
         for mapping in mappings {
@@ -134,6 +140,13 @@ impl Way for Folded {
         if broken != 0 {
             find_bad(bounds, mappings)?;
         }
+        Ok(())
+    }
+}
+
+impl Way for Folded {
+    fn hits(bounds: &Bounds, mappings: &[Mapping], first: u64, last: u64) -> Places {
+        Folded::check(bounds, mappings)?;
         Ok(find(mappings, first, last))
     }
 }
@@ -166,11 +179,19 @@ fn spare_reservation(bounds: &Bounds, mappings: &[Mapping]) -> bool {
     first.is_none_or(|mapping| bounds.reserved_end <= mapping[0])
 }
 
-impl Way for Joined {
-    fn hits(bounds: &Bounds, mappings: &[Mapping], first: u64, last: u64) -> Places {
+impl Check for Joined {
+    #[inline(always)]
+    fn check(bounds: &Bounds, mappings: &[Mapping]) -> Result<(), Refusal> {
         if !(all_fit(bounds, mappings) && spare_reservation(bounds, mappings)) {
             find_bad(bounds, mappings)?;
         }
+        Ok(())
+    }
+}
+
+impl Way for Joined {
+    fn hits(bounds: &Bounds, mappings: &[Mapping], first: u64, last: u64) -> Places {
+        Joined::check(bounds, mappings)?;
         Ok(find(mappings, first, last))
     }
 }
@@ -197,7 +218,7 @@ fn are_zero(places: &[Mapping]) -> bool {
 }
 
 /// Refuses a table with another word than zero behind its mappings.
-fn check_behind(behind: &[Mapping]) -> Result<(), Refusal> {
+pub fn check_behind(behind: &[Mapping]) -> Result<(), Refusal> {
     are_zero(behind).then_some(()).ok_or(Refusal::StaleWords)
 }
 
@@ -228,7 +249,7 @@ impl<W> Plain<W> {
     }
 }
 
-fn counted(count: u64, capacity: usize) -> Result<usize, Refusal> {
+pub fn counted(count: u64, capacity: usize) -> Result<usize, Refusal> {
     let count = usize::try_from(count).unwrap_or(usize::MAX);
     (count <= capacity)
         .then_some(count)

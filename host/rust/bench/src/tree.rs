@@ -13,11 +13,11 @@ use waylluqen_compare::tables::Table;
 
 /// Size, object and offset by their address.
 pub struct Tree {
-    mappings: BTreeMap<u64, [u64; 3]>,
+    pub mappings: BTreeMap<u64, [u64; 3]>,
     /// Of the table that it stands for.
-    words: usize,
+    pub words: usize,
     /// In lent words, as beside a table.
-    list: List,
+    pub list: List,
 }
 
 fn mapping((&address, &[size, object, offset]): (&u64, &[u64; 3])) -> Mapping {
@@ -37,7 +37,7 @@ impl Tree {
         }
     }
 
-    fn check(&self, bounds: &Bounds) -> Result<(), Refusal> {
+    pub fn check(&self, bounds: &Bounds) -> Result<(), Refusal> {
         let mut floor = bounds.start;
         for (place, entry) in self.mappings.iter().enumerate() {
             let (holds, end) = masked_end(bounds, floor, &mapping(entry));
@@ -63,12 +63,18 @@ impl Tree {
         self.mappings.range(from..end).map(mapping)
     }
 
-    fn insert(&mut self, [address, size, object, offset]: Mapping) {
+    pub fn insert(&mut self, [address, size, object, offset]: Mapping) {
         self.mappings.insert(address, [size, object, offset]);
     }
 
-    /// Carries out a request that is in order, unless there is no room.
-    fn change(&mut self, capacity: usize, list: &mut [u64], request: &Request, end: u64) -> Bound {
+    /// Carries out a request that is in order, unless there is no room. The list has room.
+    pub fn change(
+        &mut self,
+        capacity: usize,
+        list: &mut [u64],
+        request: &Request,
+        end: u64,
+    ) -> Bound {
         let hits = || self.hits(request.address, end);
         let lower = hits().next().and_then(|old| lower_rest(request, &old));
         let upper = hits().next_back().and_then(|old| upper_rest(end, &old));
