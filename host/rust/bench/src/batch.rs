@@ -6,6 +6,7 @@ mod plain;
 mod report;
 mod rules;
 mod tree;
+mod turns;
 
 pub use line::{lines, Line};
 pub use report::print;
@@ -13,10 +14,10 @@ pub use report::print;
 use crate::manager::{lent_types, Grant};
 use crate::timed;
 use crate::tree::Tree;
-use plain::{Copied, Undone, Worked};
-use rules::in_turn;
+use plain::{Copied, Halved, Undone, Worked};
+use rules::take_turns;
 use std::marker::PhantomData;
-use waylluqen::{BatchRefusal, Space, MAPPING_WORDS, OPERATION_WORDS, RECORD_BYTES};
+use waylluqen::{BatchRefusal, Space, MAPPING_WORDS, OPERATION_WORDS};
 use waylluqen_compare::tables::Table;
 
 pub type Batched = Result<Grant, BatchRefusal>;
@@ -121,10 +122,11 @@ impl Way for Single {
     ) -> Batched {
         let mut table = lent_types(table);
         let mut used = 0;
-        for (place, record) in records.chunks(RECORD_BYTES).enumerate() {
-            let bound = table.bind_record(space, record, &mut list[used * OPERATION_WORDS..]);
-            used += bound.map_err(|refusal| in_turn(place, refusal))?.len();
-        }
+        take_turns(records.as_chunks().0, |record| {
+            let list = &mut list[used * OPERATION_WORDS..];
+            used += table.bind_record(space, record, list)?.len();
+            Ok(())
+        })?;
         Ok(Grant {
             operations: used as u64,
             count: table.count(),
@@ -139,7 +141,7 @@ const LIBRARY: Contender = Contender {
     begin: Lent::<Library>::begin,
 };
 
-const PLAIN: [Contender; 3] = [
+const PLAIN: [Contender; 4] = [
     Contender {
         name: "copied",
         begin: Lent::<Copied>::begin,
@@ -151,6 +153,10 @@ const PLAIN: [Contender; 3] = [
     Contender {
         name: "undone",
         begin: Lent::<Undone>::begin,
+    },
+    Contender {
+        name: "halved",
+        begin: Lent::<Halved>::begin,
     },
 ];
 

@@ -6,7 +6,7 @@ use waylluqen::{Request, MAPPING_WORDS, OPERATION_WORDS};
 /// Kind, keep, a mapping, its lower and its upper rest.
 pub type Operation = [u64; OPERATION_WORDS];
 
-const MAP: u64 = 0;
+pub const MAP: u64 = 0;
 const REMAP: u64 = 1;
 const UNMAP: u64 = 2;
 
@@ -49,13 +49,22 @@ fn operation(
     [kind, u64::from(keep), a, b, c, d, e, f, g, h, i, j, k, l]
 }
 
+/// Whether a mapping that is hit shows there what the request asks for.
+fn keeps(request: &Request, &[address, _, object, offset]: &Mapping) -> bool {
+    // Offset less address is the same, asked by sums, which are at most 2^49.
+    request.op == Request::MAP
+        && object == request.object
+        && offset + request.address == request.offset + address
+}
+
+/// The operation of a mapping that is hit as a whole.
+pub fn unmap_operation(request: &Request, old: &Mapping) -> Operation {
+    operation(UNMAP, keeps(request, old), old, None, None)
+}
+
 /// The operation of a mapping that is hit.
 pub fn cut(request: &Request, end: u64, old: &Mapping) -> Operation {
-    let &[address, _, object, offset] = old;
-    // Offset less address is the same, asked by sums, which are at most 2^49.
-    let keep = request.op == Request::MAP
-        && object == request.object
-        && offset + request.address == request.offset + address;
+    let keep = keeps(request, old);
     let (lower, upper) = (lower_rest(request, old), upper_rest(end, old));
     let whole = lower.is_none() && upper.is_none();
     let kind = if whole { UNMAP } else { REMAP };

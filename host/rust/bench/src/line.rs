@@ -55,6 +55,7 @@ impl Timed for Line {
     type Manager = dyn Manager;
     const KIND: &'static str = "calls";
     const PLAIN: usize = PLAIN.len();
+    const ROUNDS: usize = 1000;
 
     fn what(&self) -> &'static str {
         self.what

@@ -196,6 +196,41 @@ impl Way for Joined {
     }
 }
 
+/// Joins the gaps between mappings instead of their addresses, and goes by places: so the compiler
+/// takes four mappings at a time without first sorting their words.
+pub struct Placed;
+
+/// Whether all mappings keep their rules where nothing is reserved: as they are aligned, and so are
+/// the gaps, so are the addresses.
+#[allow(clippy::needless_range_loop)]
+fn all_fit_in_place(bounds: &Bounds, mappings: &[Mapping]) -> bool {
+    let mut floor = bounds.start;
+    let (mut words, mut objects, mut differences) = (0, 0, 0);
+    for place in 0..mappings.len() {
+        let [address, size, object, offset] = mappings[place];
+        let last_byte = size.wrapping_sub(1);
+        words |= address.wrapping_sub(floor) | size | offset;
+        objects |= object;
+        differences |= last_byte | object.wrapping_sub(1) | offset.wrapping_add(last_byte);
+        floor = address.wrapping_add(size);
+    }
+    words.is_multiple_of(PAGE_SIZE)
+        & (words <= LIMIT)
+        & (objects <= MAX_OBJECT)
+        & (differences < LIMIT)
+        & (floor <= bounds.end)
+}
+
+impl Check for Placed {
+    #[inline(always)]
+    fn check(bounds: &Bounds, mappings: &[Mapping]) -> Result<(), Refusal> {
+        if !(all_fit_in_place(bounds, mappings) && spare_reservation(bounds, mappings)) {
+            find_bad(bounds, mappings)?;
+        }
+        Ok(())
+    }
+}
+
 /// How many mappings are joined in a turn: of the ways to look at zeros that were tried this one
 /// was the quickest, from few to as many as may be.
 const BLOCK: usize = 32;
@@ -207,7 +242,7 @@ fn join(all: &mut Mapping, mapping: &Mapping) {
 }
 
 /// Whether every word of these places is zero.
-fn are_zero(places: &[Mapping]) -> bool {
+pub fn are_zero(places: &[Mapping]) -> bool {
     let mut all = [0; MAPPING_WORDS];
     let (blocks, rest) = places.as_chunks::<BLOCK>();
     for block in blocks {

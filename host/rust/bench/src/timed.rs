@@ -13,6 +13,9 @@ pub trait Timed {
     /// How many of the contenders are plain versions: those behind the library, which is first.
     const PLAIN: usize;
 
+    /// How often each contender is timed on each line.
+    const ROUNDS: usize;
+
     fn what(&self) -> &'static str;
 
     /// How many mappings there is room for.

@@ -3,9 +3,6 @@
 use crate::timed::{lowest_plain, Contenders, Timed};
 use std::time::Instant;
 
-/// How often each contender is timed on each line.
-const ROUNDS: usize = 1000;
-
 /// About how long one timing takes: long beside the clock, short beside what else the machine does.
 const TIMING_NANOSECONDS: f64 = 50_000.0;
 
@@ -112,7 +109,7 @@ pub fn measure<L: Timed>(contenders: &Contenders<L>, lines: &[L]) -> Vec<Times> 
     let fields = lines.iter().map(|line| Field::new(contenders, line));
     let mut fields: Vec<Field<L>> = fields.collect();
     let mut all: Vec<Times> = lines.iter().map(|_| Times { rounds: Vec::new() }).collect();
-    for first in 0..ROUNDS {
+    for first in 0..L::ROUNDS {
         for (times, field) in all.iter_mut().zip(&mut fields) {
             times.rounds.push(field.round(first));
         }

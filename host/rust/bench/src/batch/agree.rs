@@ -12,7 +12,7 @@ use waylluqen_compare::tables::{fill_space, good_table, small_spaces, Good};
 use waylluqen_model::random::Random;
 use waylluqen_model::{BatchRefused, Refused, MOST_MAPPINGS};
 
-const RANDOM_BATCHES: u64 = 2000;
+const RANDOM_BATCHES: u64 = 4000;
 const SEED: u64 = 9;
 
 /// What a batch is to answer, and all words as they are to be afterwards.
@@ -78,22 +78,18 @@ fn compare(batch: &Batch) -> library::Batched {
     model
 }
 
-/// What is timed itself: all is granted, by single calls too, and the table is as it was afterwards.
-fn compare_line(line: &Line) {
-    let batch = line.batch();
-    assert!(compare(&batch).is_ok(), "{} is granted", line.what);
-    let expected = Expected::of(&batch, &batch.answer());
+/// A batch that is timed: it is granted, by single calls too, and the table is as it was afterwards.
+fn compare_timed(line: &Line, records: &[u8]) {
+    let batch = line.batch(records);
+    let model = compare(&batch);
+    assert!(model.is_ok(), "{} is granted", line.what);
+    let mut expected = Expected::of(&batch, &model);
     for contender in contenders() {
         // Single calls work in no words.
-        let work = match contender.name == SINGLE.name {
-            true => lent_words(&batch).0,
-            false => expected.work.clone(),
-        };
-        let expected = Expected {
-            answer: expected.answer,
-            table: expected.table.clone(),
-            work,
-            list: expected.list.clone(),
+        let (any_work, _) = lent_words(&batch);
+        expected.work = match contender.name == SINGLE.name {
+            true => any_work,
+            false => vec![0; any_work.len()],
         };
         let mut manager = hold(contender, &batch, &expected);
         if line.starts_empty {
@@ -141,7 +137,9 @@ fn compare_random(random: &mut Random) -> library::Batched {
 /// Panics where an answer or a word is another than the model's.
 pub fn assert_equal() {
     for line in lines() {
-        compare_line(&line);
+        for records in &line.batches {
+            compare_timed(&line, records);
+        }
     }
     let mut random = Random::new(SEED);
     let (mut granted, mut whole, mut in_turn) = (0, ByNumber::default(), ByNumber::default());

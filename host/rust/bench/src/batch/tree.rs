@@ -1,12 +1,12 @@
 //! The same on a map of the standard library, which is checked once for a batch.
 
-use super::rules::{check_lengths, decode, in_turn, whole, Lengths, Record};
+use super::rules::{check_lengths, clear, decode, take_turns, whole, Lengths, Record};
 use super::{Batched, Manager};
-use crate::cut::Operation;
+use crate::cut::{Operation, MAP};
 use crate::manager::{self, Bound, Grant};
 use crate::rules::{check_ranges, check_request, Bounds};
 use crate::tree::Tree;
-use waylluqen::{BatchRefusal, Refusal, Space, OPERATION_WORDS};
+use waylluqen::{Refusal, Space, OPERATION_WORDS};
 
 /// The requests of a batch on a map, and their operations so far.
 struct Turns<'a> {
@@ -31,14 +31,6 @@ impl Turns<'_> {
             false => self.tree.change(self.capacity, left, &request, end),
         }?;
         self.used += grant.operations as usize;
-        Ok(())
-    }
-
-    fn take_all(&mut self, records: &[Record]) -> Result<(), BatchRefusal> {
-        for (place, record) in records.iter().enumerate() {
-            self.take(record)
-                .map_err(|refusal| in_turn(place, refusal))?;
-        }
         Ok(())
     }
 }
@@ -73,7 +65,7 @@ impl Tree {
             if upper_size != 0 {
                 self.mappings.remove(&upper);
             }
-            if kind != 0 {
+            if kind != MAP {
                 self.insert([a, b, c, d]);
             }
         }
@@ -103,10 +95,10 @@ impl Manager for Tree {
             list,
             used: 0,
         };
-        let taken = turns.take_all(records);
+        let taken = take_turns(records, |record| turns.take(record));
         let used = turns.used;
         // It works in no lent words.
-        work.fill(0);
+        clear(work);
         if let Err(refused) = taken {
             self.take_back(&list[..used * OPERATION_WORDS]);
             list.fill(0);
