@@ -1,6 +1,7 @@
 //! Batches of requests: the library's, and plain ones beside it.
 
 pub mod agree;
+mod gapped;
 mod line;
 mod plain;
 mod report;
@@ -14,6 +15,7 @@ pub use report::print;
 use crate::manager::{lent_types, Grant};
 use crate::timed;
 use crate::tree::Tree;
+use gapped::Gapped;
 use plain::{Copied, Halved, Undone, Worked};
 use rules::take_turns;
 use std::marker::PhantomData;
@@ -141,7 +143,7 @@ const LIBRARY: Contender = Contender {
     begin: Lent::<Library>::begin,
 };
 
-const PLAIN: [Contender; 4] = [
+const PLAIN: [Contender; 5] = [
     Contender {
         name: "copied",
         begin: Lent::<Copied>::begin,
@@ -157,6 +159,10 @@ const PLAIN: [Contender; 4] = [
     Contender {
         name: "halved",
         begin: Lent::<Halved>::begin,
+    },
+    Contender {
+        name: "gapped",
+        begin: Lent::<Gapped>::begin,
     },
 ];
 
