@@ -81,27 +81,19 @@ fn compare(batch: &Batch) -> library::Batched {
 /// A batch that is timed: it is granted, by single calls too, and the table is as it was afterwards.
 fn compare_timed(line: &Line, records: &[u8]) {
     let batch = line.batch(records);
-    let model = compare(&batch);
-    assert!(model.is_ok(), "{} is granted", line.what);
-    let mut expected = Expected::of(&batch, &model);
+    let mut expected = Expected::of(&batch, &batch.answer());
+    assert!(expected.answer.is_ok(), "{} is granted", line.what);
     for contender in contenders() {
-        // Single calls work in no words.
-        let (any_work, _) = lent_words(&batch);
-        expected.work = match contender.name == SINGLE.name {
-            true => any_work,
-            false => vec![0; any_work.len()],
-        };
+        let name = contender.name;
+        // Single calls work in no words, and leave any.
+        let left = if name == SINGLE.name { SEED } else { 0 };
+        expected.work.fill(left);
         let mut manager = hold(contender, &batch, &expected);
         if line.starts_empty {
             manager.empty(MAX_BATCH);
         }
         let start = (line.table.words.clone(), line.table.count);
-        assert!(
-            manager.table() == start,
-            "{}, {}",
-            contender.name,
-            line.what
-        );
+        assert!(manager.table() == start, "{name}, {}", line.what);
     }
 }
 

@@ -1,6 +1,6 @@
 //! The rules of a batch in plain safe Rust: what it is refused for itself, and its records.
 
-use crate::plain::{are_zero, check_behind, counted, Check, Placed};
+use crate::plain::{are_zero, check_behind, check_mappings, counted};
 use crate::rules::{bounds, capacity, check_list, check_ranges, Bounds};
 use waylluqen::{BatchRefusal, Refusal, Request, Space, MAX_BATCH, RECORD_BYTES};
 use waylluqen_compare::tables::Table;
@@ -63,7 +63,7 @@ pub fn check<'a>(
         } = lengths;
         let count = counted(lent.count, capacity)?;
         let (mappings, behind) = lent.words.as_chunks().0.split_at(count);
-        Placed::check(&bounds, mappings)?;
+        check_mappings(&bounds, mappings)?;
         check_behind(behind)?;
         check_ranges(&bounds, &lent.list)?;
         Ok(Checked {
