@@ -1,8 +1,8 @@
 /* SPDX-License-Identifier: MIT */
 /*
- * A program without a C library: all that it gives the linker is a start and memset(), as a
- * kernel would. It exits with 0 if the library answers as it should, else with the line that says
- * otherwise.
+ * A program without a C library: all that it gives the linker is a start, memset() and memmove(),
+ * as a kernel would. It exits with 0 if the library answers as it should, else with the line that
+ * says otherwise.
  */
 #include "waylluqen.h"
 
@@ -18,6 +18,7 @@ __asm__(".globl _start\n"
         "    syscall\n");
 
 void *memset(void *to, int byte, size_t bytes);
+void *memmove(void *to, const void *from, size_t bytes);
 int run(void);
 
 void *memset(void *to, int byte, size_t bytes)
@@ -25,6 +26,25 @@ void *memset(void *to, int byte, size_t bytes)
     volatile unsigned char *next = (unsigned char *)to;
     while (bytes-- > 0) {
         *next++ = (unsigned char)byte;
+    }
+    return to;
+}
+
+/* The two runs may overlap: down it goes from the first byte, up from the last one. */
+void *memmove(void *to, const void *from, size_t bytes)
+{
+    volatile unsigned char *next = (unsigned char *)to;
+    const unsigned char *old = (const unsigned char *)from;
+    size_t i;
+
+    if ((uintptr_t)to <= (uintptr_t)from) {
+        for (i = 0; i < bytes; i++) {
+            next[i] = old[i];
+        }
+    } else {
+        for (i = bytes; i-- > 0;) {
+            next[i] = old[i];
+        }
     }
     return to;
 }
@@ -60,6 +80,35 @@ static int look_up(uint64_t count)
     seen = waylluqen_lookup(space, ranges, range_words, 0, table, table_words, count - 1, 0x102008);
     if (seen.refusal != WAYLLUQEN_REFUSED_STALE_WORDS || seen.bytes != 0) {
         return __LINE__;
+    }
+    return 0;
+}
+
+/* Pages before the last mapping come and go, and it moves with what is between: up and down, onto
+ * words of its own run too. In the end all is as it was. */
+static int move_behind(uint64_t count)
+{
+    static const waylluqen_request requests[] = {{WAYLLUQEN_OP_MAP, 0x101000, 0x1000, 9, 0},
+                                                 {WAYLLUQEN_OP_UNMAP, 0x100000, 0x1000, 0, 0},
+                                                 {WAYLLUQEN_OP_MAP, 0x100000, 0x1000, 7, 0},
+                                                 {WAYLLUQEN_OP_UNMAP, 0x101000, 0x1000, 0, 0}};
+    static const uint64_t counts[] = {3, 2, 3, 2};
+    waylluqen_answer answer;
+    const uint64_t *last;
+    int i;
+
+    for (i = 0; i < 4; i++) {
+        answer = waylluqen_bind(space, ranges, range_words, 0, table, table_words, count,
+                                operations, operation_words, requests[i]);
+        if (answer.refusal != WAYLLUQEN_OK || answer.count != counts[i]) {
+            return __LINE__;
+        }
+        count = answer.count;
+        last = table + (count - 1) * WAYLLUQEN_MAPPING_WORDS;
+        if (last[WAYLLUQEN_MAPPING_ADDRESS] != 0x102000 || last[WAYLLUQEN_MAPPING_OBJECT] != 7 ||
+            last[WAYLLUQEN_MAPPING_OFFSET] != 0x2000) {
+            return __LINE__;
+        }
     }
     return 0;
 }
@@ -161,6 +210,7 @@ int run(void)
         return __LINE__;
     }
     line = look_up(answer.count);
+    line = line != 0 ? line : move_behind(answer.count);
     line = line != 0 ? line : make_sparse(answer.count);
     return line != 0 ? line : bind_all(answer.count);
 }
