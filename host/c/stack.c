@@ -5,7 +5,7 @@
  * pushed down to the lowest byte that has changed is what it took, with all that it calls itself. The caller's own
  * place for the answer is not counted.
  *
- * Link it with -z now, so that no first call of memset runs the dynamic linker on that stack.
+ * Link it with -z now, so that no first call of memset or memmove runs the dynamic linker on that stack.
  */
 #define _DEFAULT_SOURCE /* for MAP_ANONYMOUS in support.h */
 
@@ -128,7 +128,7 @@ static size_t painted(void (*make)(void), uint8_t paint)
     return (size_t)(before - (stack + lowest));
 }
 
-/* Mappings as fill_places() has them, and zeros behind. Behind the pages of the last place are four more. */
+/* Mappings as fill_places() has them, and zeros behind. Behind the pages of the last place are eight more. */
 static void fill_table(size_t room, size_t count)
 {
     static struct mapping mappings[MOST_MAPPINGS];
@@ -136,7 +136,7 @@ static void fill_table(size_t room, size_t count)
     fill_places(mappings, count);
     memset(table, UNWRITTEN_BYTE, sizeof table);
     memcpy(table, mappings, room * sizeof *mappings);
-    call.space = (waylluqen_space){0, 4 * (room + 1) * PAGE, 0, 0};
+    call.space = (waylluqen_space){0, 4 * (room + 2) * PAGE, 0, 0};
     call.table_words = room * MAPPING_WORDS;
     call.list_words = WAYLLUQEN_BATCH_LIST_WORDS(room, REQUESTS);
     call.count = count;
@@ -175,11 +175,13 @@ static const struct test_case cases[] = {
     {0, 1, UNMAPS(LAST_PLACE, 1, 2)},
     {0, 2, MAPS(FIRST_PLACE, 1, 2)},
     {0, 2, MAPS(MIDDLE_PLACE, 1, 2)},
-    /* They move down, and what is left is cleared. */
+    /* They move down, by one, by two or by three, and what is left is cleared. */
     {0, 0, UNMAPS(FIRST_PLACE, 0, 4)},
     {0, 0, UNMAPS(MIDDLE_PLACE, 0, 4)},
     {0, 0, UNMAPS(LAST_PLACE, 0, 4)},
     {0, 0, MAPS(FIRST_PLACE, 0, 8)},
+    {0, 0, UNMAPS(FIRST_PLACE, 0, 8)},
+    {0, 0, UNMAPS(FIRST_PLACE, 0, 12)},
     {0, 0, UNMAPS(ALL, 0, 4)},
     {0, 0, MAPS(ALL, 0, 4)},
     {0, 1, UNMAPS(ALL, 0, 4)},
@@ -199,7 +201,7 @@ static const struct test_case cases[] = {
     {17, EMPTY, FIRST_PLACE, WAYLLUQEN_OP_MAP, 0, 3, STALE_FIRST},
     {17, EMPTY, FIRST_PLACE, WAYLLUQEN_OP_UNMAP, 0, 3, STALE_LAST},
     {6, 0, MAPS(FIRST_PLACE, 3, 3)},
-    {7, 0, MAPS(LAST_PLACE, 0, 9)},
+    {7, 0, MAPS(LAST_PLACE, 0, 13)},
     {11, 0, MAPS(FIRST_PLACE, 3, 4)},
     {11, 0, MAPS(LAST_PLACE, 3, 4)},
     {11, 0, UNMAPS(MIDDLE_PLACE, 1, 2)},
@@ -408,7 +410,7 @@ static void check_measure(void)
     call.bind = waylluqen_bind;
 }
 
-/* Where there is room for one mapping alone, none has to be cleared by memset. */
+/* Where there is room for one mapping alone, none has to be moved by memmove or cleared by memset. */
 #define ROOMS 4
 static const size_t rooms[ROOMS] = {1, 2, 512, MOST_MAPPINGS};
 
