@@ -71,7 +71,7 @@ extern "C" {
  *   thread, no interrupt, no device. Look-ups in one table and one list may run beside each other,
  *   but not beside a bind on them. There are no locks in here.
  * - The processor is an x86-64 with the System V calling convention, and SSE2 may be used. A call
- *   takes less than a kilobyte of stack. At link time there is a memset().
+ *   takes less than a kilobyte of stack. At link time there are memset() and memmove().
  * - The stack pointer is a multiple of 16 at a call, as that convention has it. The Linux kernel
  *   keeps it a multiple of 8 only: there the first bind faults, unless the caller aligns it.
  * - The 128 bytes below the stack pointer are left alone during a call: by interrupts, and also by
