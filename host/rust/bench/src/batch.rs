@@ -143,7 +143,7 @@ const LIBRARY: Contender = Contender {
     begin: Lent::<Library>::begin,
 };
 
-const PLAIN: [Contender; 5] = [
+const PLAIN: [Contender; 4] = [
     Contender {
         name: "copied",
         begin: Lent::<Copied>::begin,
@@ -160,11 +160,14 @@ const PLAIN: [Contender; 5] = [
         name: "halved",
         begin: Lent::<Halved>::begin,
     },
-    Contender {
-        name: "gapped",
-        begin: Lent::<Gapped>::begin,
-    },
 ];
+
+/// Apart from the plain ones: it keeps the table in another form while the batch goes on, which
+/// nobody would write first. So it shows what could be had, and does not count for the quickest.
+const GAPPED: Contender = Contender {
+    name: "gapped",
+    begin: Lent::<Gapped>::begin,
+};
 
 const SINGLE: Contender = Contender {
     name: "single calls",
@@ -178,10 +181,10 @@ const TREE: Contender = Contender {
 
 /// Those that carry out a batch, all or none, in lent words, which can be any.
 fn lent() -> impl Iterator<Item = &'static Contender> {
-    [&LIBRARY].into_iter().chain(&PLAIN)
+    [&LIBRARY].into_iter().chain(&PLAIN).chain([&GAPPED])
 }
 
-/// The library first, then the plain ones, then single calls and the tree.
+/// The library first, then the plain ones and the one with a gap, then single calls and the tree.
 pub fn contenders() -> Vec<&'static Contender> {
     lent().chain([&SINGLE, &TREE]).collect()
 }

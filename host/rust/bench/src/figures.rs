@@ -52,6 +52,17 @@ impl<L: Timed> Figures<L> {
             by_instructions: places.map(by_instructions).collect(),
         }
     }
+
+    /// The library by one contender, for each line.
+    pub fn ratios_to(&self, other: usize) -> Ratios {
+        let by_time = |times: &Times| times.ratio(LIBRARY, other).median;
+        let by_instructions = |counts: &Vec<f64>| counts[LIBRARY] / counts[other];
+        let counts = self.counts.as_ref();
+        Ratios {
+            by_time: self.times.iter().map(by_time).collect(),
+            by_instructions: counts.map(|of_lines| of_lines.iter().map(by_instructions).collect()),
+        }
+    }
 }
 
 pub struct Ratios {
