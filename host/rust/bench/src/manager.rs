@@ -1,6 +1,6 @@
 //! What is timed: managers of one address space, the library's and plain ones beside it.
 
-use crate::plain::{Checked, Folded, Joined, Masked, Merged, Plain};
+use crate::plain::{Checked, Folded, Indexed, Joined, Masked, Merged, Plain};
 use crate::timed;
 use crate::tree::Tree;
 use waylluqen::{Ranges, Refusal, Request, Seen, Shown, Space};
@@ -54,7 +54,7 @@ pub const LIBRARY: Contender = Contender {
     },
 };
 
-pub const PLAIN: [Contender; 5] = [
+pub const PLAIN: [Contender; 6] = [
     Contender {
         name: "checked",
         begin: |table| Box::new(Plain::<Checked>::new(table)),
@@ -74,6 +74,10 @@ pub const PLAIN: [Contender; 5] = [
     Contender {
         name: "joined",
         begin: |table| Box::new(Plain::<Joined>::new(table)),
+    },
+    Contender {
+        name: "indexed",
+        begin: |table| Box::new(Plain::<Indexed>::new(table)),
     },
 ];
 

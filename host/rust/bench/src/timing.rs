@@ -81,7 +81,7 @@ impl<'a, L: Timed> Field<'a, L> {
     /// Nanoseconds a call of one contender.
     fn time(&mut self, contender: usize) -> f64 {
         let manager = &mut *self.managers[contender];
-        // Once before: since its last timing all the other tables were used, some 9 MB, and this one
+        // Once before: since its last timing all the other tables were used, some 11 MB, and this one
         // went to a cache further away. At 4,096 mappings a call would take half as long again.
         self.line.make_calls(manager, &mut self.lent);
         let start = Instant::now();

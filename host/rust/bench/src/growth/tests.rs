@@ -181,7 +181,8 @@ fn the_figures_are_those_of_the_tables() {
     let times: Vec<Times> = (0..lines.len())
         .map(|line| {
             let first = 100.0 * (line + 1) as f64;
-            let round = [0.0, 9.0, 3.0, 2.0, 4.0, 6.0, 5.0].map(|more| first + more);
+            // The last plain version is the quickest of them.
+            let round = [0.0, 9.0, 3.0, 7.0, 4.0, 6.0, 2.0, 5.0].map(|more| first + more);
             Times::of_rounds(vec![round.to_vec()])
         })
         .collect();
