@@ -13,19 +13,20 @@ use Rattle.model.specs.declared.Mapping.{Mapping}
 use Rattle.model.specs.declared.Request.{Request}
 use Rattle.model.specs.Rules.{end, stop}
 use Rattle.model.specs.Table.{mappingsIn}
-use Rattle.model.specs.Cut.{lowerPart, upperPart, prepend, below, above, mappingOf, newFor, new, after, spared, hits, operations}
+use Rattle.model.specs.Cut.{lowerPart, upperPart, prepend, below, above, new, after, spared, hits, operations}
 use Rattle.model.specs.Exactly.{Each}
 use Rattle.model.proofs.Actions.{each-map}
 use Rattle.model.proofs.Store.{length-mappings}
-use Rattle.model.proofs.Counts.{prepend-most}
 use Rattle.model.proofs.Window.{below-append, above-append, below-under, below-over, above-under, above-over}
 use Rattle.model.proofs.Run.{Run, run-from, below-none}
 use Rattle.model.proofs.Chain.{chain-run}
 use Rattle.model.proofs.Table.{top}
 use Rattle.table.specs.Places.{mappingAt, between, firstWhere, startsBehind, endsBehind}
-use Rattle.table.specs.Splice.{spliced}
+use Rattle.table.specs.declared.Replacement.{Replacement}
+use Rattle.table.specs.Splice.{mappingsOf, spliced}
 use Rattle.table.proofs.Places.{valid-chain, valid-at}
 use Rattle.table.proofs.First.{first-most, first-before}
+use Rattle.table.proofs.Parts.{part, part-none, parts}
 use Rattle.table.proofs.Between.{between-none, between-first, between-next, length-between, from-between}
 use Rattle.cut.specs.Operations.{Cuttable, hitOperations, operationsFor}
 use Rattle.change.specs.Change.{Placed}
@@ -143,7 +144,7 @@ module _ {r : Request} {ws : List ℕ} {lo hi : ℕ} (p : Placed r ws lo hi) whe
 
   -- ── what it makes of the mappings hit: only the first is left below the range, and only the last above it ──
 
-  pub after-none : lo ≡ hi → after r hit ≡ new r
+  after-none : lo ≡ hi → after r hit ≡ new r
   unfolding below above
   after-none e =
       let none : hit ≡ [] = ap (between ws lo) (sym e) ∙ between-none ws lo in
@@ -180,20 +181,13 @@ module _ {r : Request} {ws : List ℕ} {lo hi : ℕ} (p : Placed r ws lo hi) whe
       let l : length (take lo ms) ≡ lo = length-take-le lo ms (omega (arith, low-high, length-mappings n ws)) in
       ap length after-places ∙ simp (length-append, length-drop, length-mappings) (omega (arith, l))
 
-  -- the replacement, as it is put together
-  pub replaced : {f l lower upper : Mapping} {xs ys zs : List Mapping} → (lo ≡ hi → ⊥) → f ≡ mappingAt ws lo → l ≡ mappingAt ws (hi - 1)
-      → lower ≡ lowerPart a f → upper ≡ upperPart b l → xs ≡ prepend lower [] → ys ≡ xs ++ new r → zs ≡ ys ++ prepend upper [] → zs ≡ after r hit
-  replaced {f} {l} ne ef el elower eupper exs eys ezs =
+  -- ── the replacement, as it is put together ──
+
+  pub replaced-none : (n : Replacement) → lo ≡ hi → n .lower .size ≡ 0 → part (n .new) ≡ new r → n .upper .size ≡ 0 → mappingsOf n ≡ after r hit
+  replaced-none n e l m u = parts n ∙ rw (part-none (n .lower) l, m, part-none (n .upper) u, after-none e) (append-nil (new r))
+
+  pub replaced : {f l : Mapping} (n : Replacement) → (lo ≡ hi → ⊥) → f ≡ mappingAt ws lo → l ≡ mappingAt ws (hi - 1)
+      → n .lower ≡ lowerPart a f → part (n .new) ≡ new r → n .upper ≡ upperPart b l → mappingsOf n ≡ after r hit
+  replaced n ne ef el elower enew eupper =
       let h : lo < hi = omega (arith, low-high, ne) in
-      ezs ∙ rw (eys, exs, elower, eupper, after-some h ef el) (append-assoc (prepend (lowerPart a f) []) (new r) (prepend (upperPart b l) []))
-
--- a part is one mapping at most, and so is what a request maps
-pub part-most : (m : Mapping) {xs : List Mapping} → xs ≡ prepend m [] → length xs ≤ 1
-part-most m e = rw e (prepend-most m [])
-
-pub new-most : (r : Request) (xs : List Mapping) {ys : List Mapping} → ys ≡ xs ++ new r → length xs ≤ 1 → length ys ≤ 2
-new-most r xs e h = rw e (omega (arith, length-append xs (new r), one (r .op)))
-  where
-    one : (n : ℕ) → length (newFor n (mappingOf r)) ≤ 1
-    one zero = omega arith
-    one (suc n) = omega arith
+      parts n ∙ rw (elower, enew, eupper, after-some h ef el)

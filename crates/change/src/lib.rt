@@ -1,12 +1,12 @@
 // Carries out a request that is known to be in order on a table that is known to be valid, in place. Want of room alone
 // refuses it, in the table or for its operations.
+use model::Mapping;
 use model::Request;
 use table::Replacement;
 ghost use mathlib.Core.Path.{_≡_};
-ghost use mathlib.Core.List.{_++_};
-ghost use Prim.Native.Nat.{_≤_};
-ghost use lib.ListN.{length};
-ghost use Rattle.model.specs.Cut.{new, after};
+ghost use mathlib.Core.List.{[]};
+ghost use Prim.Native.Nat.{_<_};
+ghost use Rattle.model.specs.Cut.{prepend, new, after};
 ghost use Rattle.table.specs.Places.{lent, between};
 ghost use Rattle.table.specs.Splice.{mappingsOf};
 ghost use Rattle.change.specs.Change.{changeReply, Ready, FirstBehind, Placed, changed};
@@ -19,15 +19,27 @@ pub enum ChangeAnswer {
     ShortOutput,
 }
 
-// The mapping that a map asks for, behind what is left below its range.
-fn with_new(below: Replacement, r: Request) -> Replacement
-    requires { ⌜ length (mappingsOf below) ≤ 2 ⌝ }
-    ensures { λ n. ⌜ mappingsOf n ≡ mappingsOf below ++ new r ⌝ }
+// No mapping.
+fn none() -> Mapping
+    ensures { λ m. ⌜ m .size ≡ 0 ⌝ }
+{
+    Mapping {
+        address: 0,
+        size: 0,
+        object: 0,
+        offset: 0,
+    }
+}
+
+// The mapping that a map asks for; none of an unmap.
+fn new_or_none(r: Request) -> Mapping
+    requires { ⌜ 0 < r .size ⌝ }
+    ensures { λ m. ⌜ prepend m [] ≡ new r ⌝ }
 {
     if r.op != 0 {
-        return below;
+        return none();
     }
-    table::with(below, cut::new_mapping(r))
+    cut::new_mapping(r)
 }
 
 // What takes the place of the mappings hit, from place `lo` up to `hi`: what is left of the first below the range, the new
@@ -36,13 +48,21 @@ fn replacement(r: Request, t: &[u64], lo: usize, hi: usize) -> Replacement
     requires { ⌜ Placed r (now t) lo hi ⌝ }
     ensures { λ n. ⌜ mappingsOf n ≡ after r (between (now (t .entry)) lo hi) ⌝ }
 {
+    let new = new_or_none(r);
     if lo == hi {
-        return with_new(Replacement::Empty, r);
+        return Replacement {
+            lower: none(),
+            new: new,
+            upper: none(),
+        };
     }
-    let lower = cut::lower_part(r, table::read_mapping(t, lo));
-    let upper = cut::upper_part(r, table::read_mapping(t, hi - 1));
-    let below = table::with_part(Replacement::Empty, lower);
-    table::with_part(with_new(below, r), upper)
+    let first = table::read_mapping(t, lo);
+    let last = table::read_mapping(t, hi - 1);
+    Replacement {
+        lower: cut::lower_part(r, first),
+        new: new,
+        upper: cut::upper_part(r, last),
+    }
 }
 
 // The request carried out, unless there is no room: its operations from the first word on, and the table in its place. The

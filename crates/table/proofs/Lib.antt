@@ -5,6 +5,7 @@ pub mod First
 pub mod Halving
 pub mod Looks
 pub mod Near
+pub mod Parts
 pub mod Places
 pub mod Sees
 pub mod Spliced

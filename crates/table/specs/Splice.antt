@@ -1,18 +1,16 @@
 -- Mappings of a table replaced by others.
 -- Assumes nothing.
-use mathlib.Core.List.{List, [], _∷_, _++_}
+use mathlib.Core.List.{List, [], _++_}
 use Prim.Native.Nat.{ℕ, _+_, _-_, _*_, _≤_}
 use lib.ListN.{length, take, drop}
 use Rattle.model.specs.declared.Mapping.{Mapping}
+use Rattle.model.specs.Cut.{prepend}
 use Rattle.words.specs.Words.{ZeroFrom}
 use Rattle.table.specs.declared.Replacement.{Replacement}
-use Rattle.table.specs.declared.Replacement.the-variants.{Empty, One, Two, Three}
 
+-- those that are there
 abbrev pub mappingsOf : Replacement → List Mapping
-mappingsOf Empty = []
-mappingsOf (One a) = a ∷ []
-mappingsOf (Two a b) = a ∷ b ∷ []
-mappingsOf (Three a b c) = a ∷ b ∷ c ∷ []
+mappingsOf n = prepend (n .lower) (prepend (n .new) (prepend (n .upper) []))
 
 -- those from place lo up to hi give way to others
 abbrev pub spliced : List Mapping → ℕ → ℕ → List Mapping → List Mapping

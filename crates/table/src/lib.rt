@@ -20,12 +20,12 @@ ghost use Rattle.table.specs.Splice.{mappingsOf, spliced, Splice};
 // The binary digits of 4,096, the most mappings that a table has.
 const MOST_STEPS: usize = 13;
 
-// Up to three mappings that take the place of others.
-pub enum Replacement {
-    Empty,
-    One(Mapping),
-    Two(Mapping, Mapping),
-    Three(Mapping, Mapping, Mapping),
+// What takes the place of mappings: what is left of the first below a range, the new mapping, what is left of the last above
+// it. One of size 0 is none.
+pub struct Replacement {
+    pub lower: Mapping,
+    pub new: Mapping,
+    pub upper: Mapping,
 }
 
 // A search for the first mapping that ends behind a byte address: its place is one of the `left` from `lo` on, or right behind
@@ -258,61 +258,40 @@ pub fn see(s: Space, t: &[u64], count: usize, x: u64) -> Seen
     seen_by(read_mapping(t, i), x)
 }
 
-// One mapping more behind at most two.
-pub fn with(new: Replacement, m: Mapping) -> Replacement
-    requires { ⌜ length (mappingsOf new) ≤ 2 ⌝ }
-    ensures { λ r. ⌜ mappingsOf r ≡ mappingsOf new ++ (m ∷ []) ⌝ }
+// 1 for a mapping, 0 for none.
+fn one_or_none(m: Mapping) -> usize
+    ensures { λ n. ⌜ (n ≡ length (prepend m [])) × (n ≤ 1) ⌝ }
 {
-    match new {
-        Replacement::Empty => Replacement::One(m),
-        Replacement::One(a) => Replacement::Two(a, m),
-        Replacement::Two(a, b) => Replacement::Three(a, b, m),
-        // Not reached: at most two come in.
-        Replacement::Three(a, b, c) => Replacement::Three(a, b, c),
-    }
-}
-
-// One part of a mapping more, unless it is empty.
-pub fn with_part(new: Replacement, m: Mapping) -> Replacement
-    requires { ⌜ length (mappingsOf new) ≤ 2 ⌝ }
-    ensures { λ r. ⌜ mappingsOf r ≡ mappingsOf new ++ prepend m [] ⌝ }
-{
-    if m.size == 0 {
-        return new;
-    }
-    with(new, m)
+    if m.size == 0 { 0 } else { 1 }
 }
 
 // How many mappings take the place.
 pub fn replacement_length(new: Replacement) -> usize
     ensures { λ n. ⌜ (n ≡ length (mappingsOf new)) × (n ≤ 3) ⌝ }
 {
-    match new {
-        Replacement::Empty => 0,
-        Replacement::One(_) => 1,
-        Replacement::Two(_, _) => 2,
-        Replacement::Three(_, _, _) => 3,
-    }
+    one_or_none(new.lower) + one_or_none(new.new) + one_or_none(new.upper)
 }
 
-// Writes the mappings from place `i` on.
+// Writes a mapping at place `i`, unless it is none; answers the place behind.
+fn write_part(t: &mut [u64], i: usize, m: Mapping) -> usize
+    requires { ⌜ 4 * (i + length (prepend m [])) ≤ length (now t) ⌝ }
+    ensures { λ n. ⌜ (now (t .exit) ≡ stored (now (t .entry)) (4 * i) (flatMap wordsOf (prepend m []))) × (n ≡ i + length (prepend m [])) ⌝ }
+{
+    if m.size == 0 {
+        return i;
+    }
+    write_mapping(t, i, m);
+    i + 1
+}
+
+// Writes the mappings from place `i` on, one behind the other.
 fn write_replacement(t: &mut [u64], i: usize, new: Replacement)
     requires { ⌜ 4 * (i + length (mappingsOf new)) ≤ length (now t) ⌝ }
     ensures { λ _. ⌜ now (t .exit) ≡ stored (now (t .entry)) (4 * i) (flatMap wordsOf (mappingsOf new)) ⌝ }
 {
-    match new {
-        Replacement::Empty => {}
-        Replacement::One(a) => write_mapping(t, i, a),
-        Replacement::Two(a, b) => {
-            write_mapping(t, i, a);
-            write_mapping(t, i + 1, b)
-        }
-        Replacement::Three(a, b, c) => {
-            write_mapping(t, i, a);
-            write_mapping(t, i + 1, b);
-            write_mapping(t, i + 2, c)
-        }
-    }
+    let second = write_part(t, i, new.lower);
+    let third = write_part(t, second, new.new);
+    write_part(t, third, new.upper);
 }
 
 // Makes the words behind the last of `after` mappings zero, where there were `count`: those of the mappings that are gone.
