@@ -31,15 +31,17 @@ fn none() -> Mapping
     }
 }
 
-// The mapping that a map asks for; none of an unmap.
+// The mapping that a map asks for; of an unmap none. Only the size tells, so that the other words need no conditional move.
 fn new_or_none(r: Request) -> Mapping
     requires { ⌜ 0 < r .size ⌝ }
     ensures { λ m. ⌜ prepend m [] ≡ new r ⌝ }
 {
-    if r.op != 0 {
-        return none();
+    Mapping {
+        address: r.address,
+        size: if r.op == 0 { r.size } else { 0 },
+        object: r.object,
+        offset: r.offset,
     }
-    cut::new_mapping(r)
 }
 
 // What takes the place of the mappings hit, from place `lo` up to `hi`: what is left of the first below the range, the new
