@@ -1,7 +1,7 @@
 -- A cut by places: the mappings that a request hits stand together, and what the request makes of the table is what it
 -- makes of them, in their place.
 -- Assumes nothing.
-use mathlib.Core.Path.{_≡_, sym, ap, subst, _∙_}
+use mathlib.Core.Path.{_≡_, refl, sym, ap, subst, _∙_}
 use mathlib.Core.Bool.{true, false}
 use mathlib.Core.List.{List, [], _∷_, _++_, append-assoc, append-nil}
 use Prim.Native.Nat.{ℕ, zero, suc, _+_, _-_, _≤_, _<_, min, max}
@@ -28,9 +28,18 @@ use Rattle.table.proofs.Places.{valid-chain, valid-at}
 use Rattle.table.proofs.First.{first-most, first-before}
 use Rattle.table.proofs.Parts.{part, part-none, parts}
 use Rattle.table.proofs.Between.{between-none, between-first, between-next, length-between, from-between}
-use Rattle.cut.specs.Operations.{Cuttable, hitOperations, operationsFor}
+use Rattle.cut.specs.Operations.{Hit, Cuttable, hitOperations, operationsFor}
 use Rattle.change.specs.Change.{Placed}
 use Rattle.change.proofs.Runs.{run-drop, run-left, each-left, run-before, ends-before, ends-behind, starts-behind, hits-append, hits-none, hits-all}
+
+-- what holds of each between two places holds at each place
+each-at : (P : Mapping → Type 0) (ws : List ℕ) (hi k lo : ℕ) → lo + k < hi → Each P (between ws lo hi) → P (mappingAt ws (lo + k))
+each-at P ws hi zero lo h es =
+    let e : lo + 0 ≡ lo = omega arith in
+    rw e (subst (Each P) (between-first ws lo hi (omega arith) refl) es .0)
+each-at P ws hi (suc k) lo h es =
+    let e : lo + 1 + k ≡ lo + suc k = omega arith in
+    subst (λ (j : ℕ). P (mappingAt ws j)) e (each-at P ws hi k (lo + 1) (omega arith) (subst (Each P) (between-first ws lo hi (omega arith) refl) es .1))
 
 module _ {r : Request} {ws : List ℕ} {lo hi : ℕ} (p : Placed r ws lo hi) where
   abbrev n : ℕ
@@ -59,11 +68,6 @@ module _ {r : Request} {ws : List ℕ} {lo hi : ℕ} (p : Placed r ws lo hi) whe
   low-high =
       let l : lo ≤ length ms = omega (arith, p .low, first-most (endsBehind a) ms) in
       (omega (arith, p .high), omega (arith, p .high, l, first-most (startsBehind (b - 1)) (drop lo ms), length-drop lo ms, length-mappings n ws))
-
-  pub cuttable : {m : Mapping} (i : ℕ) → i < n → m ≡ mappingAt ws i → Cuttable r m
-  cuttable i h e =
-      let m = valid-at (p .table) i h e in
-      record { not-empty = p .not-empty; stop-most = p .stop-most; end-most = m .0; offset-most = m .1 }
 
   from-low : drop lo ms ≡ hit ++ drop hi ms
   from-low = from-between ws lo n hi (low-high .0) (low-high .1)
@@ -96,6 +100,18 @@ module _ {r : Request} {ws : List ℕ} {lo hi : ℕ} (p : Placed r ws lo hi) whe
       let e : take k (drop lo ms) ≡ hit = ap (take k) from-low ∙ subst (λ (i : ℕ). take i (hit ++ drop hi ms) ≡ hit) l (take-append-seam hit (drop hi ms)) in
       each-map (λ m. startsBehind (b - 1) m ≡ false) (λ m. m .address < b) hit (λ m q. let h = ltb-false (b - 1) (m .address) q in omega (arith, h, p .not-empty))
       (subst (Each (λ m. startsBehind (b - 1) m ≡ false)) e (first-before (startsBehind (b - 1)) (drop lo ms)))
+
+  pub hit-at : (i : ℕ) → lo ≤ i → i < hi → Hit r (mappingAt ws i)
+  hit-at i l h =
+      let e : lo + (i - lo) ≡ i = omega arith in
+      let ends = each-at (λ m. (a < end m) × (0 < m .size)) ws hi (i - lo) lo (omega arith) hit-ends in
+      let starts = each-at (λ m. m .address < b) ws hi (i - lo) lo (omega arith) hit-starts in
+      subst (λ (j : ℕ). Hit r (mappingAt ws j)) e (ends .0, starts)
+
+  pub cuttable : {m : Mapping} (i : ℕ) → lo ≤ i → i < hi → m ≡ mappingAt ws i → Cuttable r m
+  cuttable i l h e =
+      let m = valid-at (p .table) i (omega (arith, low-high)) e in
+      record { not-empty = p .not-empty; hit = subst (Hit r) (sym e) (hit-at i l h); stop-most = p .stop-most; end-most = m .0; offset-most = m .1 }
 
   -- ── what the request makes of the table ──
 

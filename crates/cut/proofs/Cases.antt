@@ -2,7 +2,7 @@
 -- Assumes nothing.
 use mathlib.Core.Path.{_≡_, refl, _∙_}
 use mathlib.Core.Bool.{Bool}
-use Prim.Native.Nat.{ℕ, suc, _+_, _-_, max}
+use Prim.Native.Nat.{ℕ, suc, _+_, _-_, _<_}
 use native.Mathlib.Omega.{arith}
 use Rattle.model.specs.declared.Mapping.{Mapping}
 use Rattle.model.specs.declared.Request.{Request}
@@ -14,13 +14,17 @@ use Rattle.model.specs.Rows.{choose}
 use Rattle.model.specs.Rules.{end, stop}
 use Rattle.model.specs.Cut.{lowerPart, upperPart, keepMark, operationFor, operationOf}
 use Rattle.model.specs.Layout.{operationWords}
+use Rattle.model.proofs.Window.{same}
 use Rattle.cut.specs.Operations.{absentRest, lowerOf, upperOf, parts}
 
--- the upper rest, put together: x is the range's end
-pub upper-is : (r : Request) (m : Mapping) {x from size offset : ℕ} → from ≡ max x (m .address) → size ≡ end m - from
-    → offset ≡ m .offset + (from - m .address) → x ≡ stop r
-    → record { address = from; size = size; object = m .object; offset = offset } ≡ upperPart (stop r) m
-upper-is r m ef es eo ex = rw (eo, es, ef, ex)
+-- the rests of a mapping that is hit, put together: x is the range's end
+pub lower-is : (r : Request) (m : Mapping) {size : ℕ} → r .address < end m → size ≡ r .address - m .address
+    → record { address = m .address; size = size; object = m .object; offset = m .offset } ≡ lowerPart (r .address) m
+lower-is r m h es = same _ _ refl (omega (arith, es, h)) refl refl
+
+pub upper-is : (r : Request) (m : Mapping) {x size offset : ℕ} → m .address < stop r → size ≡ end m - x → offset ≡ m .offset + (x - m .address) → x ≡ stop r
+    → record { address = x; size = size; object = m .object; offset = offset } ≡ upperPart (stop r) m
+upper-is r m h es eo ex = same _ _ (omega (arith, ex, h)) (omega (arith, es, ex, h)) refl (omega (arith, eo, ex, h))
 
 -- by the sizes i and j of what is left
 module _ (k : Bool) (m l u : Mapping) {i j : ℕ} where

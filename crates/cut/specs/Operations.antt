@@ -12,11 +12,16 @@ use Rattle.model.specs.declared.Operation.the-variants.{Map}
 use Rattle.model.specs.Rules.{limit, end, stop}
 use Rattle.model.specs.Table.{wordsOf}
 use Rattle.model.specs.Cut.{new, operationOf}
-use Rattle.table.specs.Places.{between, Valid}
+use Rattle.table.specs.Places.{mappingAt, between, Valid}
 
--- the range is not empty, and no sum of a cut is large
+-- the mapping ends behind the range's first byte, and starts before its end
+abbrev pub Hit : Request → Mapping → Type 0
+Hit r m = (r .address < end m) × (m .address < stop r)
+
+-- the range is not empty, the mapping is hit, and no sum of a cut is large
 pub record Cuttable (r : Request) (m : Mapping) : Type 0 where
   pub not-empty : 0 < r .size
+  pub hit : Hit r m
   pub stop-most : stop r ≤ limit
   pub end-most : end m ≤ limit
   pub offset-most : m .offset + m .size ≤ limit
@@ -50,12 +55,14 @@ hitOperations r hs = map (operationOf r) hs
 unfoldable pub operationsFor : Request → List Mapping → List Operation
 operationsFor r hs = hitOperations r hs ++ map Map (new r)
 
--- lo and hi are places of a table that passed its check, and n words have room for the operations
+-- lo and hi are places of a table that passed its check, the mappings between them are hit, and n words have room for the
+-- operations
 pub record Hits (r : Request) (ws : List ℕ) (lo hi n : ℕ) : Type 0 where
   pub count : ℕ
   pub table : Valid ws count
   pub low : lo ≤ hi
   pub high : hi ≤ count
+  pub hit : (i : ℕ) → lo ≤ i → i < hi → Hit r (mappingAt ws i)
   pub not-empty : 0 < r .size
   pub stop-most : stop r ≤ limit
   pub offset-most : r .offset ≤ limit

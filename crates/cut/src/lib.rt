@@ -92,26 +92,26 @@ pub fn last_byte(r: Request) -> u64
     r.address + (r.size - 1)
 }
 
-// What is left of a mapping below the range.
+// What is left below the range of a mapping that is hit: it ends behind the range's first byte.
 pub fn lower_part(r: Request, m: Mapping) -> Mapping
     requires { ⌜ Cuttable r m ⌝ }
     ensures { λ l. ⌜ l ≡ lowerPart (r .address) m ⌝ }
 {
-    let end = rules::lesser(r.address, m.address + m.size);
     Mapping {
         address: m.address,
-        size: distance(m.address, end),
+        size: distance(m.address, r.address),
         object: m.object,
         offset: m.offset,
     }
 }
 
-// What is left of a mapping above the range: its offset moves up by the same distance as its address.
+// What is left above the range of a mapping that is hit, which starts before the range's end: its offset moves up by the
+// same distance as its address.
 pub fn upper_part(r: Request, m: Mapping) -> Mapping
     requires { ⌜ Cuttable r m ⌝ }
     ensures { λ u. ⌜ u ≡ upperPart (stop r) m ⌝ }
 {
-    let from = rules::greater(last_byte(r) + 1, m.address);
+    let from = last_byte(r) + 1;
     Mapping {
         address: from,
         size: distance(from, m.address + m.size),

@@ -6,7 +6,7 @@ use Rattle.model.proofs.New.{new-most}
 use Rattle.model.proofs.Store.{length-mappings}
 use Rattle.table.specs.Places.{endsBehind}
 use Rattle.table.proofs.First.{first-most}
-use Rattle.change.proofs.Hits.{low-high}
+use Rattle.change.proofs.Hits.{low-high, hit-at}
 use Rattle.change.proofs.Changed.{placed, fits-places, full, short, carried-out}
 use borrow.Author.Needs.{needs}
 use Rattle.change.proofs.change.Statement.{statement}
@@ -109,6 +109,7 @@ write-operations-requires c κs =
       table = start .pre .0 .table;
       low = low-high p .0;
       high = low-high p .1;
+      hit = hit-at p;
       not-empty = start .pre .0 .not-empty;
       stop-most = start .pre .0 .stop-most;
       offset-most = start .pre .0 .offset-most;

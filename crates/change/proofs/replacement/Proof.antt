@@ -37,13 +37,13 @@ lower-part-requires : tie.Need-lower-part-requires
 lower-part-requires c κs =
     let tested = c .before .before in
     let start = tested .before .before .before in
-    cuttable (start .pre) (start .args .lo) (omega (arith, low-high (start .pre), tested .if1 .left)) (c .before .read-mapping .ensures)
+    cuttable (start .pre) (start .args .lo) (omega arith) (omega (arith, low-high (start .pre), tested .if1 .left)) (c .before .read-mapping .ensures)
 
 upper-part-requires : tie.Need-upper-part-requires
 upper-part-requires c κs =
     let tested = c .before .before .before in
     let start = tested .before .before .before in
-    cuttable (start .pre) (start .args .hi - 1) (omega (arith, low-high (start .pre), tested .if1 .left)) (c .before .read-mapping2 .ensures)
+    cuttable (start .pre) (start .args .hi - 1) (omega (arith, low-high (start .pre), tested .if1 .left)) (omega (arith, low-high (start .pre), tested .if1 .left)) (c .before .read-mapping2 .ensures)
 
 returns-2 : tie.Need-returns-2
 returns-2 c =

@@ -10,11 +10,8 @@ use Rattle.cut.proofs.upper_part.Tie as tie
 last-byte-requires : tie.Need-last-byte-requires
 last-byte-requires c κs = search needs
 
-add-greater : tie.Need-add-greater
-add-greater c = search needs
-
-greater-requires : tie.Need-greater-requires
-greater-requires c κs = search needs
+add-from : tie.Need-add-from
+add-from c = search needs
 
 add-distance : tie.Need-add-distance
 add-distance c = search needs
@@ -30,20 +27,10 @@ add-t7 c = search needs
 
 returns : tie.Need-returns
 returns c =
-    let higher = c .before .before .before .before in
-    let last = higher .before in
+    let last = c .before .before .before .before in
     let start = last .before in
-    upper-is (start .args .r) (start .args .m) (higher .greater .ensures) (c .before .before .distance .ensures) refl (omega (arith, last .last-byte .ensures, start .pre .not-empty))
+    upper-is (start .args .r) (start .args .m) (start .pre .hit .1) (c .before .before .distance .ensures) refl
+    (omega (arith, last .last-byte .ensures, start .pre .not-empty))
 
 pub upper-part-spec : {M : Type 1} → statement M
-upper-part-spec =
-    tie.close
-    (tie.spec
-    last-byte-requires
-    add-greater
-    greater-requires
-    add-distance
-    distance-requires
-    sub-t6
-    add-t7
-    returns)
+upper-part-spec = tie.close (tie.spec last-byte-requires add-from add-distance distance-requires sub-t6 add-t7 returns)

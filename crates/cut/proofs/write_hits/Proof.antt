@@ -1,10 +1,11 @@
 -- `cut::write_hits` meets its contract.
 -- Assumes nothing.
-use mathlib.Core.Path.{_≡_, refl, _∙_}
+use mathlib.Core.Path.{_≡_, refl, sym, subst, _∙_}
 use Prim.Native.Nat.{_-_, _≤_}
 use native.Mathlib.Omega.{arith}
 use lib.ListN.{length}
 use Rattle.table.proofs.Places.{valid-at}
+use Rattle.cut.specs.Operations.{Hit}
 use Rattle.cut.proofs.Written.{HitsTo, hits-start, hits-next, room-each}
 use borrow.Author.Needs.{needs}
 use Rattle.cut.proofs.write_hits.Statement.{statement}
@@ -25,8 +26,10 @@ read-mapping-requires c κs = let pre = c .before .before .before .before .pre i
 operation-of-requires : tie.Need-operation-of-requires Inv-loop μ-loop
 operation-of-requires c κs =
     let pre = c .before .before .before .before .before .pre in
-    let m = valid-at (pre .table) (c .before .before .loop .i) (omega (arith, pre .high)) (c .read-mapping .ensures) in
-    (record { not-empty = pre .not-empty; stop-most = pre .stop-most; end-most = m .0; offset-most = m .1 }, pre .offset-most)
+    let i = c .before .before .loop .i in
+    let e = c .read-mapping .ensures in
+    let m = valid-at (pre .table) i (omega (arith, pre .high)) e in
+    (record { not-empty = pre .not-empty; hit = subst (Hit (c .before .before .before .before .before .args .r)) (sym e) (pre .hit i (omega arith) (omega arith)); stop-most = pre .stop-most; end-most = m .0; offset-most = m .1 }, pre .offset-most)
 
 sub-write-operation : tie.Need-sub-write-operation Inv-loop μ-loop
 sub-write-operation c = search needs
