@@ -172,11 +172,11 @@ fn reaches(t: &[u64], count: usize, i: usize, x: u64) -> bool
     requires { ⌜ Valid (now t) count × (i ≤ count) ⌝ }
     ensures { λ b. ⌜ (b ≡ true → firstWhere (endsBehind x) (mappingsIn count (now (t .entry))) ≤ i) × (b ≡ false → i < firstWhere (endsBehind x) (mappingsIn count (now (t .entry)))) ⌝ }
 {
-    if i == count {
-        return true;
+    if i < count {
+        let m = read_mapping(t, i);
+        return x < m.address + m.size;
     }
-    let m = read_mapping(t, i);
-    x < m.address + m.size
+    true
 }
 
 // The place of the first mapping that ends behind `x`, which may be `near` or the next one: so it mostly is for a request
