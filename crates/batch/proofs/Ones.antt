@@ -2,7 +2,7 @@
 -- Assumes nothing.
 use mathlib.Core.Path.{_≡_, refl, sym, ap, subst, _∙_}
 use mathlib.Core.Logic.{inl, inr}
-use mathlib.Core.List.{List, [], _∷_, _++_}
+use mathlib.Core.List.{List, _++_}
 use Prim.Native.Nat.{ℕ, _*_, _≤_}
 use native.Mathlib.Omega.{arith}
 use lib.Dec.{eqb, eqb→eq}
@@ -14,10 +14,10 @@ use Rattle.model.specs.Rows.{Row, Reply, refused, answered, decide, verdict}
 use Rattle.model.specs.Rules.{formRows, requestRows}
 use Rattle.model.specs.Table.{Table, capacity, mappings, badPlace}
 use Rattle.model.specs.Cut.{after}
-use Rattle.model.specs.Calls.{bytes, requestOf, recordRow, recordRows, decode, Lent, Outcome}
+use Rattle.model.specs.Calls.{Lent, Outcome}
 use Rattle.model.specs.Demand3.{Holds}
 use Rattle.model.proofs.Tests.{tests, or-cases}
-use Rattle.model.proofs.Rows.{past, passed-split, answered-passed, andThen, decide-append, decide-verdict}
+use Rattle.model.proofs.Rows.{past, passed-split, answered-passed, andThen, decide-append}
 use Rattle.model.proofs.Groups.{form-passed, request-passed}
 use Rattle.model.proofs.Chain.{Chain}
 use Rattle.model.proofs.Table.{top, chain-good}

@@ -25,7 +25,7 @@ first-place-requires c κs =
     let start = checked .before .before .before .before .before in
     let a = start .args in
     let ready = ready-there (a .s) (lentWords (a .ranges .now) (a .range-count) (a .table .now) (a .count)) (a .operations .now) (a .r) (a .known) (start .pre)
-            (sym (ap verdictReply (passed .enum-told .given .1)) ∙ checked .bind-verdict .ensures) in
+    (sym (ap verdictReply (passed .enum-told .given .1)) ∙ checked .bind-verdict .ensures) in
     (ready .table, λ e. start .pre e .2)
 
 cut-table-requires : tie.Need-cut-table-requires
@@ -34,9 +34,11 @@ cut-table-requires c κs =
     let passed = found .before .before .before .before in
     let checked = passed .before .before in
     let start = checked .before .before .before .before .before in
-    let a = start .args in
-    (ready-there (a .s) (lentWords (a .ranges .now) (a .range-count) (a .table .now) (a .count)) (a .operations .now) (a .r) (a .known) (start .pre)
-    (sym (ap verdictReply (passed .enum-told .given .1)) ∙ checked .bind-verdict .ensures), found .first-place .ensures)
+    let a = start .args in (
+      ready-there (a .s) (lentWords (a .ranges .now) (a .range-count) (a .table .now) (a .count)) (a .operations .now) (a .r) (a .known) (start .pre)
+          (sym (ap verdictReply (passed .enum-told .given .1)) ∙ checked .bind-verdict .ensures),
+      found .first-place .ensures,
+    )
 
 same-length : tie.Need-same-length
 same-length c = search needs

@@ -3,7 +3,7 @@
 use mathlib.Core.Path.{ap}
 use native.Mathlib.Omega.{arith}
 use lib.ListN.{length}
-use Rattle.table.proofs.Parts.{part-none, part-one}
+use Rattle.table.proofs.Parts.{part-one}
 use borrow.Author.Needs.{needs}
 use Rattle.table.proofs.one_or_none.Statement.{statement}
 use Rattle.table.proofs.one_or_none.Tie as tie

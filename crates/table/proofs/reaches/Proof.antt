@@ -4,7 +4,6 @@ use mathlib.Core.Bool.{true≢false}
 use native.Mathlib.Omega.{arith}
 use Rattle.table.proofs.Looks.{first-place}
 use Rattle.table.proofs.Near.{end-there, reached, not-reached}
-use borrow.Author.Needs.{needs}
 use Rattle.table.proofs.reaches.Statement.{statement}
 use Rattle.table.proofs.reaches.Tie as tie
 

@@ -1,12 +1,12 @@
 -- `table::step` meets its contract.
 -- Assumes nothing.
-use mathlib.Core.Path.{_≡_, sym, ap, _∙_}
+use mathlib.Core.Path.{sym, ap, _∙_}
 use Prim.Native.Nat.{_<_}
 use native.Mathlib.Omega.{arith}
 use Rattle.model.specs.declared.Mapping.{Mapping}
 use Rattle.model.specs.Table.{mappingsIn}
 use Rattle.table.specs.Places.{mappingAt}
-use Rattle.table.specs.Halving.{halved, at, middle}
+use Rattle.table.specs.Halving.{halved, middle}
 use Rattle.table.proofs.Halving.{step-some, step-none}
 use Rattle.table.proofs.Looks.{end-at, valid-order, looked-at}
 use borrow.Author.Needs.{needs}

@@ -1,6 +1,6 @@
 -- `table::write_part` meets its contract.
 -- Assumes nothing.
-use mathlib.Core.Path.{ap, sym, _∙_}
+use mathlib.Core.Path.{ap, sym}
 use mathlib.Core.List.{flatMap}
 use Prim.Native.Nat.{_*_}
 use native.Mathlib.Omega.{arith}
