@@ -9,7 +9,7 @@ use Rattle.model.specs.Rules.{page, limit, lastObject}
 use Rattle.model.specs.Table.{fitTests}
 use Rattle.model.proofs.Tests.{tests, all-true}
 use Rattle.inspect.specs.declared.Joined.{Joined}
-use Rattle.inspect.specs.Joined.{Clean, Fits}
+use Rattle.inspect.specs.Joined.{Clean, Floor, Fits}
 use Rattle.inspect.specs.Part.{upTo}
 
 -- x is not larger than w, and on a page if w is
@@ -42,7 +42,7 @@ parts x a b c = (
 )
 
 -- a wrapped difference that is not very large did not wrap
-exact : (r a b : ℕ) → (r + b) % 2 ^ 64 ≡ a → r < limit → b ≤ limit + limit → r + b ≡ a
+exact : (r a b : ℕ) → (r + b) % 2 ^ 64 ≡ a → r ≤ limit → b ≤ 2 ^ 62 → r + b ≡ a
 exact r a b e h k = omega (arith, e, h, k)
 
 -- what `join` makes of a mapping's words: differences, all wrapped
@@ -51,21 +51,17 @@ pub record Wrapped (from : ℕ) (m : Mapping) : Type 0 where
   pub size-is : (size + 1) % 2 ^ 64 ≡ m .size
   pub object : ℕ
   pub object-is : (object + 1) % 2 ^ 64 ≡ m .object
-  pub start : ℕ
-  pub start-is : (start + from) % 2 ^ 64 ≡ m .address
+  pub gap : ℕ
+  pub gap-is : (gap + from) % 2 ^ 64 ≡ m .address
   pub last : ℕ
   pub last-is : last ≡ (m .offset + size) % 2 ^ 64
 
 module _ (j : Joined) (from : ℕ) (m : Mapping) (d : Wrapped from m) where
-  -- the differences but the last
-  abbrev first-four : ℕ
-  first-four = bitOr (bitOr (bitOr (j .differences) (d .size)) (d .object)) (d .start)
-
   abbrev next : Joined
   next = record {
-    bits = bitOr (bitOr (bitOr (j .bits) (m .address)) (m .size)) (m .offset);
+    bits = bitOr (bitOr (bitOr (j .bits) (d .gap)) (m .size)) (m .offset);
     objects = bitOr (j .objects) (m .object);
-    differences = bitOr first-four (d .last);
+    differences = bitOr (bitOr (bitOr (j .differences) (d .size)) (d .object)) (d .last);
   }
 
   module _ (k : Clean next) where
@@ -77,31 +73,32 @@ module _ (j : Joined) (from : ℕ) (m : Mapping) (d : Wrapped from m) where
 
     join-before : Clean j
     join-before =
-        let w = word (parts (j .bits) (m .address) (m .size) (m .offset) .0) in
+        let w = word (parts (j .bits) (d .gap) (m .size) (m .offset) .0) in
         record {
           on-page = w .0;
           bits-most = w .1;
           objects-most = omega (arith, part-first (j .objects) (m .object) .most, k .objects-most);
-          differences-most = small (part-more (d .last) (parts (j .differences) (d .size) (d .object) (d .start) .0));
+          differences-most = small (parts (j .differences) (d .size) (d .object) (d .last) .0);
         }
 
-    join-fits : from ≤ limit + limit → Fits from m
+    join-fits : Floor from → Fits from m
     join-fits h =
-        let p = parts (j .bits) (m .address) (m .size) (m .offset) in
-        let q = parts (j .differences) (d .size) (d .object) (d .start) in
-        let address = word (p .1) in
+        let p = parts (j .bits) (d .gap) (m .size) (m .offset) in
+        let q = parts (j .differences) (d .size) (d .object) (d .last) in
+        let gap = word (p .1) in
         let size = word (p .2) in
         let offset = word (p .3) in
         let object-most : m .object ≤ lastObject = omega (arith, part-second (j .objects) (m .object) .most, k .objects-most) in
-        let size-least = exact (d .size) (m .size) 1 (d .size-is) (small (part-more (d .last) (q .1))) (omega arith) in
-        let object-least = exact (d .object) (m .object) 1 (d .object-is) (small (part-more (d .last) (q .2))) (omega arith) in
-        let start = exact (d .start) (m .address) from (d .start-is) (small (part-more (d .last) (q .3))) h in
-        let last-most = small (part-second first-four (d .last)) in
-        let offset-most : m .offset + m .size ≤ limit = omega (arith, d .last-is, size-least, offset .1, last-most) in
+        let size-least = exact (d .size) (m .size) 1 (d .size-is) (omega (arith, small (q .1))) (omega arith) in
+        let object-least = exact (d .object) (m .object) 1 (d .object-is) (omega (arith, small (q .2))) (omega arith) in
+        let start = exact (d .gap) (m .address) from (d .gap-is) (gap .1) (h .most) in
+        let address : m .address % page ≡ 0 = omega (arith, start, gap .0, h .on-page) in
+        let offset-most : m .offset + m .size ≤ limit = omega (arith, d .last-is, size-least, offset .1, small (q .3)) in
         record {
-          ends = omega (arith, address .1, size .1);
+          ends = omega (arith, start, gap .1, size .1);
+          on-page = omega (arith, address, size .0);
           fits = λ stop l. all-true (fitTests (upTo stop) from m) (omega tests);
         }
 
-  pub join-clean : Clean next → Clean j × (from ≤ limit + limit → Fits from m)
+  pub join-clean : Clean next → Clean j × (Floor from → Fits from m)
   join-clean k = (join-before k, join-fits k)

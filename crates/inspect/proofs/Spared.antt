@@ -3,14 +3,14 @@
 use mathlib.Core.Path.{_≡_, refl, sym, ap, subst, _∙_}
 use mathlib.Core.Bool.{Bool, true, false}
 use mathlib.Core.List.{List, [], _∷_}
-use Prim.Native.Nat.{ℕ, zero, suc, _+_, _*_, _≤_, _<_}
+use Prim.Native.Nat.{ℕ, zero, suc, _+_, _*_, _%_, _≤_, _<_}
 use native.Mathlib.Omega.{arith}
 use lib.ListN.{length, getD}
 use borrow.Author.Tests.{ltb-false}
 use Rattle.model.specs.declared.Mapping.{Mapping}
 use Rattle.model.specs.declared.Space.{Space}
 use Rattle.model.specs.Rows.{all, choose}
-use Rattle.model.specs.Rules.{limit, end, spaceTests}
+use Rattle.model.specs.Rules.{page, limit, end, spaceTests}
 use Rattle.model.specs.Table.{mappingsIn, fitTests, badPlace}
 use Rattle.model.specs.Exactly.{SpaceRules}
 use Rattle.model.proofs.Tests.{tests, all-facts, all-true, all-same}
@@ -27,6 +27,7 @@ abbrev reservedEnd : Space → ℕ
 reservedEnd s = s .reserved .start + s .reserved .size
 
 pub record Ends (s : Space) : Type 0 where
+  pub start : s .start % page ≡ 0
   pub space : top s ≤ limit
   pub reserved : reservedEnd s ≤ limit
 
@@ -37,8 +38,8 @@ space-ends s e = go (s .reserved .size) refl
     r = space-says s .0 (all-facts (spaceTests s) e)
 
     go : (n : ℕ) → s .reserved .size ≡ n → Ends s
-    go zero z = let h = r .no-reservation z in record { space = r .end-most; reserved = omega arith }
-    go (suc n) z = let h = r .reservation (omega arith) in record { space = r .end-most; reserved = omega (arith, h, r .end-most) }
+    go zero z = let h = r .no-reservation z in record { start = r .multiples .0; space = r .end-most; reserved = omega arith }
+    go (suc n) z = let h = r .reservation (omega arith) in record { start = r .multiples .0; space = r .end-most; reserved = omega (arith, h, r .end-most) }
 
 -- every mapping has to start inside the space anyhow
 from-start : (s : Space) (ms : List Mapping) → badPlace s 0 ms ≡ badPlace s (s .start) ms

@@ -6,22 +6,22 @@ use model::Space;
 use model::Verdict;
 ghost use mathlib.Core.Path.{_≡_};
 ghost use mathlib.Core.Bool.{true};
-ghost use Prim.Native.Nat.{_+_, _*_, _≤_};
+ghost use Prim.Native.Nat.{_+_, _*_, _%_, _≤_};
 ghost use lib.ListN.{length};
 ghost use Rattle.model.specs.Rows.{all, verdict};
-ghost use Rattle.model.specs.Rules.{limit, spaceTests};
+ghost use Rattle.model.specs.Rules.{page, limit, spaceTests};
 ghost use Rattle.model.specs.Table.{mappingsIn, badPlace, lengthRow, contentRows};
 ghost use Rattle.model.specs.Calls.{verdictReply};
 ghost use Rattle.table.specs.Places.{lent, Valid};
-ghost use Rattle.inspect.specs.Joined.{Clean, Fits};
+ghost use Rattle.inspect.specs.Joined.{Clean, Floor, Fits};
 ghost use Rattle.inspect.specs.Part.{upTo};
 ghost use Rattle.inspect.specs.Rows.{ownRows};
 
 // Document 02: a table has room for 1 to so many mappings.
 const MOST_MAPPINGS: usize = 4096;
 
-// The words of mappings joined bit by bit, and differences that their rules ask to be from 0 up to 2^48: one look at the
-// end tells of all of them, without a branch for each.
+// The words of mappings joined bit by bit, for an address the gap before it, and differences that their rules ask to be
+// from 0 up to 2^48: one look at the end tells of all of them, without a branch for each.
 struct Joined {
     bits: u64,
     objects: u64,
@@ -39,18 +39,18 @@ fn none_joined() -> Joined
 }
 
 // One mapping more, which is to start at `from` or behind. A difference below zero wraps to a very large number. The last
-// one is where the mapping's last byte is in its object.
+// one is where the mapping's last byte is in its object. Behind a `from` on a page, a gap on a page makes an address on
+// one.
 fn join(j: Joined, from: u64, m: Mapping) -> Joined
-    ensures { λ k. ⌜ (Clean k → Clean j × (from ≤ limit + limit → Fits from m)) ⌝ }
+    ensures { λ k. ⌜ (Clean k → Clean j × (Floor from → Fits from m)) ⌝ }
 {
     let last_byte = std::num::wrapping_sub_u64(m.size, 1);
     Joined {
-        bits: j.bits | m.address | m.size | m.offset,
+        bits: j.bits | std::num::wrapping_sub_u64(m.address, from) | m.size | m.offset,
         objects: j.objects | m.object,
         differences: j.differences
             | last_byte
             | std::num::wrapping_sub_u64(m.object, 1)
-            | std::num::wrapping_sub_u64(m.address, from)
             | std::num::wrapping_add_u64(m.offset, last_byte),
     }
 }
@@ -83,9 +83,10 @@ fn first_bad(s: Space, t: &[u64], count: usize) -> usize
     place
 }
 
-// All mappings keep their rules between `from` and `stop`, where nothing is reserved, if this says so: one look at their joined words.
+// All mappings keep their rules between `from` and `stop`, where nothing is reserved, if this says so: one look at their
+// joined words. Gaps and sizes of at most 2^48 make no end that wraps, of so few mappings: the last one is the largest.
 fn all_fit(t: &[u64], count: usize, from: u64, stop: u64) -> bool
-    requires { ⌜ (4 * count ≤ length (now t)) × (from ≤ limit) ⌝ }
+    requires { ⌜ (4 * count ≤ length (now t)) × (from ≤ limit) × (from % page ≡ 0) ⌝ }
     ensures { λ b. ⌜ (b ≡ true → badPlace (upTo stop) from (mappingsIn count (now (t .entry))) ≡ count) ⌝ }
 {
     let mut i: usize = 0;
@@ -97,7 +98,7 @@ fn all_fit(t: &[u64], count: usize, from: u64, stop: u64) -> bool
         end = std::num::wrapping_add_u64(m.address, m.size);
         i += 1;
     }
-    all_keep_rules(seen) & (end <= stop)
+    all_keep_rules(seen) & (end <= stop) & (count <= MOST_MAPPINGS)
 }
 
 // No mapping of an ascending table shares a byte with the reservation if this says so: the first that ends behind its start starts at its

@@ -15,7 +15,8 @@ add-all-fit c =
 all-fit-requires : tie.Need-all-fit-requires
 all-fit-requires c κs =
     let start = c .before .before in
-    (start .pre .1, omega (arith, space-ends (start .args .s) (start .pre .0) .space))
+    let ends = space-ends (start .args .s) (start .pre .0) in
+    (start .pre .1, omega (arith, ends .space), ends .start)
 
 spares-reservation-requires : tie.Need-spares-reservation-requires
 spares-reservation-requires c κs =

@@ -19,17 +19,17 @@ wrapping-add-u64-requires c κs = search needs
 
 returns : tie.Need-returns
 returns c =
-    let start = c .before in
-    let object = start .before in
-    let size = object .before .before .before .before .before .before .before .before in
+    let object = c .before in
+    let gap = object .before .before .before .before .before .before .before in
+    let size = gap .before in
     let a = size .before .args in
     join-clean (a .j) (a .from) (a .m) (record {
       size = size .wrapping-sub-u64 .result;
       size-is = size .wrapping-sub-u64 .ensures;
-      object = object .wrapping-sub-u642 .result;
-      object-is = object .wrapping-sub-u642 .ensures;
-      start = start .wrapping-sub-u643 .result;
-      start-is = start .wrapping-sub-u643 .ensures;
+      object = object .wrapping-sub-u643 .result;
+      object-is = object .wrapping-sub-u643 .ensures;
+      gap = gap .wrapping-sub-u642 .result;
+      gap-is = gap .wrapping-sub-u642 .ensures;
       last = c .wrapping-add-u64 .result;
       last-is = c .wrapping-add-u64 .ensures;
     })
