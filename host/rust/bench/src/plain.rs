@@ -33,11 +33,12 @@ pub struct Merged;
 /// Collects the broken rules of all mappings, and looks for the place only if there are any.
 pub struct Folded;
 
-/// Checks as the library does: joins the words and the differences of all mappings, looks at them
-/// once, and leaves the reservation to a search.
+/// Joins the words and the differences of all mappings, looks at them once, and leaves the
+/// reservation to a search.
 pub struct Joined;
 
-/// Checks as `Joined` does, but joins gaps and goes by places; then searches by halves.
+/// Checks as the library does: as `Joined`, but joins gaps and goes by places; then searches by
+/// halves.
 pub struct Indexed;
 
 /// The places by halves, in a table that keeps its rules.
