@@ -11,6 +11,7 @@ each P [] f = tt
 each P (x ∷ xs) f = (f x (Memᴰ.head refl), each P xs (λ y m. f y (Memᴰ.tail m)))
 
 pub each_mem : {A : Type 0} (P : A → Type 0) (l : List A) (x : A) → Each P l → x ∈ l → P x
+each_mem {A = A} P [] x h x4 = elim x4 [ ]
 each_mem P (y ∷ l) x h (Memᴰ.head e) = subst P (sym e) h.0
 each_mem P (y ∷ l) x h (Memᴰ.tail m) = each_mem P l x h.1 m
 
@@ -37,6 +38,7 @@ module _ {A T : Type 0} (act : A → T → T) (Ok : A → Type 0)
   act_run x o (g ∷ G) os t = act_run x o G os.1 (act g t) ∙ ap (run act G) (comm x g o os.0 t)
 
   absorb : (x : A) → Ok x → (G : List A) → Each Ok G → x ∈ G → (t : T) → act x (run act G t) ≡ run act G t
+  absorb x o [] os x3 t = elim x3 [ ]
   absorb x o (g ∷ G) os (Memᴰ.head e) t =
       act_run x o G os.1 (act g t)
       ∙ ap (run act G) (subst (λ (y : A). act x (act y t) ≡ act y t) e (idem x o t))

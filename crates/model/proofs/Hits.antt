@@ -45,6 +45,7 @@ hits_hit r (n ∷ ms) m i = go (hits r (n ∷ ms)) (hits_first r n ms) (hits_hit
     go hs (hit h) ih (Memᴰ.tail i) = (Memᴰ.tail (ih i).0, (ih i).1)
 
 pub hit_hits : (r : Request) (ms : List Mapping) (m : Mapping) → m ∈ ms → Hit r m → m ∈ hits r ms
+hit_hits r [] m x'' k = elim x'' [ ]
 hit_hits r (n ∷ ms) m (Memᴰ.head p) k = go (hits r (n ∷ ms)) (hits_first r n ms)
   where
     go : (hs : List Mapping) → First r n ms hs → m ∈ hs

@@ -65,6 +65,7 @@ record Lies (from : ℕ) (p : Request) : Type 0 where
 
 lies : (r : Request) (from : ℕ) (cs : List ℕ) → CutsFrom r from cs → (p : Request) → p ∈ pieces_from r from cs → Lies from p
 unfolding pieces_from
+lies r from [] h p (Memᴰ.tail m) = elim m [ ]
 lies r from [] h p (Memᴰ.head e) = subst (Lies from) (sym e) (omega arith)
 lies r from (c ∷ cs) h p (Memᴰ.head e) = subst (Lies from) (sym e) (omega arith)
 lies r from (c ∷ cs) h p (Memᴰ.tail m) = let l : Lies c p = lies r c cs h.2 p m in omega arith
@@ -89,6 +90,7 @@ is_piece r x y h k = record { part = ap (piece r x) (sym (piece-stop r x y h)); 
 
 are_pieces : (r : Request) (from : ℕ) (cs : List ℕ) → CutsFrom r from cs → (p : Request) → p ∈ pieces_from r from cs → IsPiece r from p
 unfolding pieces_from
+are_pieces r from [] h p (Memᴰ.tail m) = elim m [ ]
 are_pieces r from [] h p (Memᴰ.head e) = subst (IsPiece r from) (sym e) (is_piece r from (stop r) (omega arith) (omega arith))
 are_pieces r from (c ∷ cs) h p (Memᴰ.head e) =
     subst (IsPiece r from) (sym e) (is_piece r from c (omega arith) (omega (arith, cuts_end r c cs h.2)))
@@ -135,6 +137,7 @@ cut_pieces r cs h = record {
 
 -- two members of an ordered list are the same, or related one way or the other
 ordered_two : {A : Type 0} (R : A → A → Type 0) (l : List A) → Ordered R l → (x y : A) → x ∈ l → y ∈ l → (x ≡ y) ⊎ (R x y ⊎ R y x)
+ordered_two {A = A} R [] o x y x5 _ = elim x5 [ ]
 ordered_two R (z ∷ l) o x y (Memᴰ.head d) (Memᴰ.head e) = inl (d ∙ sym e)
 ordered_two R (z ∷ l) o x y (Memᴰ.head d) (Memᴰ.tail n) = inr (inl (subst (λ z. R z y) (sym d) (each_mem (R z) l y o.0 n)))
 ordered_two R (z ∷ l) o x y (Memᴰ.tail m) (Memᴰ.head e) = inr (inr (subst (λ z. R z x) (sym e) (each_mem (R z) l x o.0 m)))

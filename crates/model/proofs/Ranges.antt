@@ -128,6 +128,7 @@ mappings-apart r ms = each_says _ _ (λ m h. apart_shares _ _ _ _ (omega tests))
 
 pub bare_in : (ys : List Range) (y : Range) (x : ℕ) → y ∈ ys → InRange y x → bare ys x ≡ Sparse
 unfolding bare
+bare_in [] y x x4 i = elim x4 [ ]
 bare_in (z ∷ ys) y x (Memᴰ.head e) i = let c : InRange z x = rw e at i in rw (all_true (in_range_tests z x) (omega tests), bare)
 bare_in (z ∷ ys) y x (Memᴰ.tail m) i = go (all (in_range_tests z x)) (bare_in ys y x m i)
   where

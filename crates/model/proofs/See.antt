@@ -131,6 +131,7 @@ has_or_free (m ∷ ms) x = go (has_or-not m x) (has_or_free ms x)
 -- the one that has x decides
 pub see-member : (s : Space) (ys : List Range) (ms : List Mapping) (m : Mapping) (x : ℕ) → Ascends ms → InSpace s x → m ∈ ms → Has m x
     → see s ys ms x ≡ bytes_of m x
+see-member s ys [] m x a i x6 b = elim x6 [ ]
 see-member s ys (n ∷ ms) m x a i (Memᴰ.head e) b = rw e (see-inside s ys n ms x i (rw e at b))
 see-member s ys (n ∷ ms) m x a i (Memᴰ.tail k) b =
     let behind : end n ≤ m.address = each_mem (λ m. end n ≤ m.address) ms m a.0 k in

@@ -23,6 +23,7 @@ module _ {A : Type 0} where
     there : {y : A} {l k : List A} → Pick x l k → Pick x (y ∷ l) (y ∷ k)
 
   pick : (x : A) (l : List A) → x ∈ l → (k : List A) × Pick x l k
+  pick x [] x'' = elim x'' [ ]
   pick x (y ∷ l) (Memᴰ.head e) = subst (λ (z : A). (k : List A) × Pick x (z ∷ l) k) e (l, here)
   pick x (y ∷ l) (Memᴰ.tail m) = let p = pick x l m in (y ∷ p.0, there p.1)
 
@@ -127,6 +128,7 @@ module _ (r : Request) (from : ℕ) (ps : List Request) (m : Rest r from ps) (p 
 
       back : (x : Request) → x ∈ (piece r from (stop r) ∷ []) → x ∈ ps
       back x (Memᴰ.head e) = subst (λ (y : Request). y ∈ ps) (sym (e ∙ sym it)) mem
+      back x (Memᴰ.tail n) = elim n [ ]
 
   others : Rest r (stop p) qs
   others = record {

@@ -120,6 +120,7 @@ module _ (off : Shown) where
   -- a mapping that is not the first lies behind it
   pub shows-member : (ms : List Mapping) (m : Mapping) (x : ℕ) → Ascends ms → m ∈ ms → Has m x
       → translate off ms x ≡ Object m.object (m.offset + (x - m.address))
+  shows-member [] m x a x5 i = elim x5 [ ]
   shows-member (n ∷ ms) m x a (Memᴰ.head e) i = rw e (translate_here n ms x (rw e at i))
   shows-member (n ∷ ms) m x a (Memᴰ.tail k) i =
       let behind : end n ≤ m.address = each_mem (λ m. end n ≤ m.address) ms m a.0 k in

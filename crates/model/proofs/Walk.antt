@@ -45,6 +45,7 @@ module _ (x e : ℕ) (h : x < e) where
 
   -- from one of them on there are fewer
   later_fewer : (es : List ℕ) → e ∈ es → later e es < later x es
+  later_fewer [] x'' = elim x'' [ ]
   later_fewer (a ∷ es) (Memᴰ.head d) = rw (le-ltb e a (omega arith), lt-ltb x a (omega arith)) (omega (arith, later_less es))
   later_fewer (a ∷ es) (Memᴰ.tail i) = go (order a e) (order a x) (later_fewer es i)
     where
@@ -90,12 +91,14 @@ behind-ranges [] es i = i
 behind-ranges (y ∷ ys) es i = Memᴰ.tail (Memᴰ.tail (behind-ranges ys es i))
 
 of_member : (ms : List Mapping) (es : List ℕ) (m : Mapping) → m ∈ ms → (m.address ∈ mapping_edges ms es) × (end m ∈ mapping_edges ms es)
+of_member [] es m x' = elim x' [ ]
 of_member (n ∷ ms) es m (Memᴰ.head e) =
     (Memᴰ.head (ap (λ (k : Mapping). k.address) e), Memᴰ.tail (Memᴰ.head (ap (λ (k : Mapping). end k) e)))
 of_member (n ∷ ms) es m (Memᴰ.tail i) =
     let k = of_member ms es m i in (Memᴰ.tail (Memᴰ.tail k.0), Memᴰ.tail (Memᴰ.tail k.1))
 
 of_range : (ys : List Range) (es : List ℕ) (y : Range) → y ∈ ys → (y.start ∈ range_edges ys es) × (range_end y ∈ range_edges ys es)
+of_range [] es y x' = elim x' [ ]
 of_range (z ∷ ys) es y (Memᴰ.head e) =
     (Memᴰ.head (ap (λ (k : Range). k.start) e), Memᴰ.tail (Memᴰ.head (ap (λ (k : Range). range_end k) e)))
 of_range (z ∷ ys) es y (Memᴰ.tail i) =
@@ -132,15 +135,17 @@ ahead_same x e (m ∷ ms) l h = go (order x m.address) (ahead_same x e ms l (λ 
 
 -- at a mapping's address it comes first, and then those from its end on
 ahead_at : (ms : List Mapping) (m : Mapping) → Ascends ms → Each (λ n. 0 < n.size) ms → m ∈ ms → ahead m.address ms ≡ m ∷ ahead (end m) ms
+ahead_at [] m a z x3 = elim x3 [ ]
 ahead_at (n ∷ ms) m a z (Memᴰ.head e) =
     rw (e, le-leb n.address n.address (omega arith), lt-leb (end n) n.address (omega (arith, z.0)), ahead)
-    (ap (◌∷◌ n) (sym (ahead_all (end n) ms a.0)))
+    (ap (◌∷◌ n) (sym (ahead_all (end n) ms a.0)) ∙ ap (λ (k : Mapping). n ∷ ahead (end k) ms) (sym e))
 ahead_at (n ∷ ms) m a z (Memᴰ.tail i) =
     let k : end n ≤ m.address = each_mem (λ m. end n ≤ m.address) ms m a.0 i in
     rw (lt-leb m.address n.address (omega (arith, z.0)), lt-leb (end m) n.address (omega (arith, z.0)), ahead)
     (ahead_at ms m a.1 z.1 i)
 
 in_order : (ms : List Mapping) (m n : Mapping) → Ascends ms → m ∈ ms → n ∈ ms → (m ≡ n) ⊎ ((end m ≤ n.address) ⊎ (end n ≤ m.address))
+in_order [] m n a x3 _ = elim x3 [ ]
 in_order (k ∷ ms) m n a (Memᴰ.head d) (Memᴰ.head e) = inl (d ∙ sym e)
 in_order (k ∷ ms) m n a (Memᴰ.head d) (Memᴰ.tail j) =
     inr (inl (omega (arith, each_mem (λ o. end k ≤ o.address) ms n a.0 j, ap (λ (o : Mapping). end o) d)))
