@@ -1,5 +1,7 @@
 // The public calls on a table and a list of sparse ranges: any space, any words, any counts and any numbers get the
 // answer, and leave the words, that the model gives.
+#![tactic(auto)]
+
 ghost use Rattle.std.specs.Prelude.{◌≡◌, List, [], ℕ, ◌<◌};
 ghost use Rattle.model.specs.Rows.{verdict};
 ghost use Rattle.model.specs.Table.{table_rows};

@@ -1,5 +1,7 @@
 // Carries out a request that is known to be in order on a table that is known to be valid, in place. Want of room alone
 // refuses it, in the table or for its operations.
+#![tactic(auto)]
+
 ghost use Rattle.std.specs.Prelude.{◌≡◌, [], ◌<◌};
 ghost use Rattle.model.specs.Cut.{prepend, new, after};
 ghost use Rattle.table.specs.Places.{lent, between};

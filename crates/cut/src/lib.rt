@@ -1,5 +1,7 @@
 // What a request makes of the mappings that it hits: the operation of each, its fourteen words, written and read, and the
 // operations of a request.
+#![tactic(auto)]
+
 ghost use Rattle.std.specs.Prelude.{◌≡◌, ◌+◌, ◌-◌, ◌*◌, ◌^◌, ◌≤◌, ◌<◌, leb, length};
 ghost use Rattle.std.proofs.Math.Option.{none};
 ghost use mathlib.Core.List.{flat_map};

@@ -1,6 +1,8 @@
 // The sixteen drawings of document 000, read without joining, the unmarked rows of document 01's
 // table, and document 02's keep mark. Each row is asked of the public call, and every word that the
 // call answers and leaves is compared with the words that the row expects.
+#![tactic(auto)]
+
 mod rows;
 mod show;
 

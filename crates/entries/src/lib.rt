@@ -1,5 +1,7 @@
 // The page entries of one mapping (document 02, Item 12): counted without making them, then written. A level is a size of
 // pages: 0 is 4 KiB, 1 is 2 MiB and 2 is 1 GiB.
+#![tactic(auto)]
+
 ghost use Rattle.std.specs.Prelude.{◌≡◌, ◌||◌, not, ◌+◌, ◌-◌, ◌*◌, ◌/◌, ◌%◌, ◌≤◌, min, max, ltb, length};
 ghost use mathlib.Core.List.{flat_map};
 ghost use Rattle.model.specs.Rules.{limit};

@@ -1,5 +1,7 @@
 // The check of a table (rows 2, 4, 5 and 17): a quick pass that tells mappings in order, an exact one that finds the
 // place, and a look at the words behind them.
+#![tactic(auto)]
+
 ghost use Rattle.std.specs.Prelude.{◌≡◌, ◌+◌, ◌*◌, ◌%◌, ◌≤◌, true, length};
 ghost use Rattle.model.specs.Rows.{all, verdict};
 ghost use Rattle.model.specs.Rules.{page, limit, space_tests};

@@ -1,5 +1,6 @@
 // What must be believed, and nothing else: the declared types here, the definitions and the claims in specs/.
 // There is no function. Proofs of the claims are in proofs/.
+#![tactic(auto)]
 
 // A range of addresses: [start, start + size). A reservation is one, and a sparse range.
 #[derive(Drop)]

@@ -1,5 +1,7 @@
 // What must be believed of page entries (document 02, Item 12), and nothing else: the declared types here, the definitions
 // and the claims in specs/. There is no function. Proofs of the claims are in proofs/.
+#![tactic(auto)]
+
 use model::Refusal;
 
 // A page entry: the addresses [address, address + size) show the mapping's object from the offset on.

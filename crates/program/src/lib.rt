@@ -1,5 +1,7 @@
 // What must be believed of the script program (document 01), and nothing else: the declared types here, the definitions and the claims
 // in specs/. There is no function. Proofs of the claims are in proofs/.
+#![tactic(auto)]
+
 use model::{Grant, Refusal, Seen, Space};
 
 // What stands at a place of a script (document 01: The script program). A request's 40 bytes are those behind its mark.

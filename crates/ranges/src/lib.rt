@@ -1,4 +1,6 @@
 // A list of sparse ranges in lent words, two words each: checked, searched by halves, and changed by one range in place.
+#![tactic(auto)]
+
 ghost use Rattle.std.specs.Prelude.{◌≡◌, true, map, ◌+◌, ◌*◌, ◌≤◌, ◌<◌, length};
 ghost use Rattle.model.specs.Rows.{all};
 ghost use Rattle.model.specs.Rules.{limit, space_tests};

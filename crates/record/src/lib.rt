@@ -1,4 +1,6 @@
 // The 40-byte request record, decoded: little-endian numbers, by halves.
+#![tactic(auto)]
+
 ghost use Rattle.std.specs.Prelude.{◌≡◌, ◌+◌, ◌≤◌, length};
 ghost use Rattle.model.specs.Calls.{request_of, decode, decoded_reply};
 ghost use Rattle.record.specs.Number.{NumberAt};

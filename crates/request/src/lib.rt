@@ -1,5 +1,7 @@
 // One request whose form is right, on a table and a list of sparse ranges: what the public calls, of single requests and of
 // batches, share. Internal: a caller may say that the table is known to pass.
+#![tactic(auto)]
+
 ghost use Rattle.std.specs.Prelude.{◌≡◌, true, List, [], ◌∷◌, ℕ};
 ghost use Rattle.model.specs.declared.Space.{Space};
 ghost use Rattle.model.specs.Rows.{all, answered, verdict};

@@ -1,5 +1,7 @@
 // The rules of a space, a mapping, a sparse range and a request, for any 64-bit numbers: each function is the model's
 // tests, in their order. Sums are compared exactly, and none is made that could wrap.
+#![tactic(auto)]
+
 ghost use Rattle.std.specs.Prelude.{◌≡◌, ◌+◌, min, max, leb};
 ghost use Rattle.model.specs.Rows.{all, choose, verdict};
 ghost use Rattle.model.specs.Rules.{aligned, apart, space_tests, form_rows, request_rows, alignment_row, inside_row, object_row, offset_row};

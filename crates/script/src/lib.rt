@@ -1,4 +1,5 @@
 // The script program on lent buffers: what stands at a place of the script, and what one record does.
+#![tactic(auto)]
 
 ghost use Rattle.std.specs.Prelude.{◌≡◌, List, Bool, false, ℕ, ◌+◌, ◌-◌, ◌*◌, ◌≤◌, ◌<◌, length};
 ghost use Rattle.model.specs.Layout.{operation_in};

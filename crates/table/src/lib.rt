@@ -1,4 +1,6 @@
 // A table of mappings in lent words, four words each: read, searched, and spliced in place.
+#![tactic(auto)]
+
 ghost use Rattle.std.specs.Prelude.{◌≡◌, true, false, ◌+◌, ◌*◌, ◌^◌, ◌≤◌, ◌<◌, max, length, drop};
 ghost use mathlib.Core.List.{[], flat_map};
 ghost use Rattle.model.specs.Rules.{limit, end};

@@ -1,5 +1,7 @@
 // The lines of the script program, written into a lent byte slice from a place on. Every byte is pinned: a promise gives the
 // slice as it is afterwards and the place behind the last byte written.
+#![tactic(auto)]
+
 ghost use Rattle.std.specs.Prelude.{[], ◌∷◌, ◌+◌, ◌*◌, ◌≤◌, length};
 ghost use Rattle.model.specs.Table.{words_of};
 ghost use Rattle.program.specs.Text.{decimal, spaced, rest_lines, operation_lines, shown_line};

@@ -1,5 +1,7 @@
 // The script program: reads a script from standard input, of any length and in any pieces, and prints what its records give.
 // What is printed is made by `script::advance`; here are the buffers, the reads and the writes.
+#![tactic(auto)]
+
 ghost use Rattle.std.specs.Prelude.{◌≡◌, ◌+◌, ◌^◌, ◌≤◌, ◌<◌, length};
 ghost use Rattle.program.specs.Script.{start};
 ghost use Rattle.program.specs.Text.{ascii};

@@ -1,4 +1,6 @@
 // The C boundary: what a C or Rust driver links. host/include/waylluqen.h declares it.
+#![tactic(auto)]
+
 ghost use Rattle.std.specs.Prelude.{◌≡◌, ◌∷◌};
 ghost use Rattle.model.specs.Rows.{refused, answered, verdict};
 ghost use Rattle.model.specs.Rules.{space_row, request_rows};

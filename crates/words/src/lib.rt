@@ -1,4 +1,6 @@
 // Runs of words inside one lent slice: stored, moved, cleared and looked at.
+#![tactic(auto)]
+
 ghost use Rattle.std.specs.Prelude.{◌≡◌, true, ◌+◌, ◌-◌, ◌*◌, ◌≤◌, length, replicate};
 ghost use Rattle.words.specs.Words.{stored, moved, Tells, Blank, Joins, ZeroFrom};
 
