@@ -20,7 +20,7 @@ const MOST_RECORDS: usize = 64;
 
 // What the requests came to: so many operations and so many mappings afterwards, or the number and place of the first
 // refusal.
-#[derive(Drop)]
+#[derive(Clone, Copy)]
 pub enum TurnsAnswer {
     Made(usize, usize),
     Refused(u32, usize),

@@ -6,7 +6,7 @@ use model::Grant;
 
 // The answer to a batch: a grant, or a refusal's number and place. The number tells what the place is: a mapping's for 5, a
 // request's for a number that a request gets in its turn, else 0.
-#[derive(Drop)]
+#[derive(Clone, Copy)]
 pub enum BatchAnswer {
     Granted(Grant),
     Refused(u32, usize),

@@ -15,7 +15,7 @@ use model::{Answer, Decoded, Found, Grant, Range, Refusal, Request, Space, Verdi
 
 // A request by its numbers: op 0 maps, op 1 unmaps, another is refused.
 #[repr(C)]
-#[derive(Drop)]
+#[derive(Clone, Copy)]
 pub struct Numbers {
     pub op: u64,
     pub address: u64,

@@ -13,7 +13,7 @@ use table::Replacement;
 
 // What carrying out a request came to: so many operations and so many mappings afterwards; or no room in the table, or too
 // few words for its operations, and nothing has changed.
-#[derive(Drop)]
+#[derive(Clone, Copy)]
 pub enum ChangeAnswer {
     Made(usize, usize),
     NoRoom,

@@ -5,7 +5,7 @@ ghost use Rattle.drawings.specs.Rows.{word_of};
 pub const PAGE: u64 = 4096;
 
 // A column's numbers, zeros behind them, where the next column starts, and the last byte read.
-#[derive(Drop)]
+#[derive(Clone, Copy)]
 pub struct Column {
     pub numbers: [u32; 32],
     pub count: usize,

@@ -19,7 +19,7 @@ const MOST_MAPPINGS: usize = 4096;
 
 // The words of mappings joined bit by bit, for an address the gap before it, and differences that their rules ask to be
 // from 0 up to 2^48: one look at the end tells of all of them, without a branch for each.
-#[derive(Drop)]
+#[derive(Clone, Copy)]
 struct Joined {
     bits: u64,
     objects: u64,

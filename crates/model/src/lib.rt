@@ -3,14 +3,14 @@
 #![tactic(auto)]
 
 // A range of addresses: [start, start + size). A reservation is one, and a sparse range.
-#[derive(Drop)]
+#[derive(Clone, Copy)]
 pub struct Range {
     pub start: u64,
     pub size: u64,
 }
 
 // A GPU address space (document 01: Space). A reservation of size 0 is none.
-#[derive(Drop)]
+#[derive(Clone, Copy)]
 pub struct Space {
     pub start: u64,
     pub size: u64,
@@ -18,7 +18,7 @@ pub struct Space {
 }
 
 // A mapping (document 01: Mapping): [address, address + size) shows the object from the offset on.
-#[derive(Drop)]
+#[derive(Clone, Copy)]
 pub struct Mapping {
     pub address: u64,
     pub size: u64,
@@ -28,7 +28,7 @@ pub struct Mapping {
 
 // A request, with the seven fields of the record (document 01: Request record), which calls object, address, offset
 // and size handle, addr, bo_offset and range. A request by numbers has flags and pad 0.
-#[derive(Drop)]
+#[derive(Clone, Copy)]
 pub struct Request {
     pub op: u64,
     pub flags: u64,
@@ -41,7 +41,7 @@ pub struct Request {
 
 // The refusals of document 01's table, in the order of their numbers 1 to 14, and document 02's 15 to 20. A bad mapping
 // has its place.
-#[derive(Drop)]
+#[derive(Clone, Copy)]
 pub enum Refusal {
     BadSpace,
     BadTableLength,
@@ -66,21 +66,21 @@ pub enum Refusal {
 }
 
 // What a check of some rows of the table says.
-#[derive(Drop)]
+#[derive(Clone, Copy)]
 pub enum Verdict {
     Pass,
     Refuse(Refusal),
 }
 
 // What the bytes of a record say.
-#[derive(Drop)]
+#[derive(Clone, Copy)]
 pub enum Decoded {
     Record(Request),
     Refuse(Refusal),
 }
 
 // What a remap leaves of the old mapping: a lower rest, an upper rest, or both.
-#[derive(Drop)]
+#[derive(Clone, Copy)]
 pub enum Rests {
     Lower(Mapping),
     Upper(Mapping),
@@ -88,7 +88,7 @@ pub enum Rests {
 }
 
 // One operation for the driver. The bool is the keep mark; a remap and an unmap name the old mapping, a map the new one.
-#[derive(Drop)]
+#[derive(Clone, Copy)]
 pub enum Operation {
     Map(Mapping),
     Remap(bool, Mapping, Rests),
@@ -96,14 +96,14 @@ pub enum Operation {
 }
 
 // What fourteen words of an operation list say: an operation, or none.
-#[derive(Drop)]
+#[derive(Clone, Copy)]
 pub enum Listed {
     Known(Operation),
     Unknown,
 }
 
 // What a byte address shows: nothing; a sparse range and no mapping; or an object's byte at an offset.
-#[derive(Drop)]
+#[derive(Clone, Copy)]
 pub enum Shown {
     Nothing,
     Sparse,
@@ -112,7 +112,7 @@ pub enum Shown {
 
 // What a look-up sees at a byte address: what it shows, and for how many bytes from there on the answer goes on in the
 // same way.
-#[derive(Drop)]
+#[derive(Clone, Copy)]
 pub struct Seen {
     pub shown: Shown,
     pub bytes: u64,
@@ -120,7 +120,7 @@ pub struct Seen {
 
 // What a granted request answers: the number of operations, and the counts of the table and of the list of sparse ranges
 // afterwards.
-#[derive(Drop)]
+#[derive(Clone, Copy)]
 pub struct Grant {
     pub operations: usize,
     pub count: usize,
@@ -128,14 +128,14 @@ pub struct Grant {
 }
 
 // The answer to a request.
-#[derive(Drop)]
+#[derive(Clone, Copy)]
 pub enum Answer {
     Granted(Grant),
     Refused(Refusal),
 }
 
 // The answer to a look-up.
-#[derive(Drop)]
+#[derive(Clone, Copy)]
 pub enum Found {
     Shows(Seen),
     Refused(Refusal),

@@ -5,7 +5,7 @@
 use model::Refusal;
 
 // A page entry: the addresses [address, address + size) show the mapping's object from the offset on.
-#[derive(Drop)]
+#[derive(Clone, Copy)]
 pub struct Entry {
     pub address: u64,
     pub offset: u64,
@@ -13,7 +13,7 @@ pub struct Entry {
 }
 
 // The answer to a listing of a mapping's page entries: how many there are, or a refusal.
-#[derive(Drop)]
+#[derive(Clone, Copy)]
 pub enum Listing {
     Listed(usize),
     Refused(Refusal),

@@ -5,7 +5,7 @@
 use model::{Grant, Refusal, Seen, Space};
 
 // What stands at a place of a script (document 01: The script program). A request's 40 bytes are those behind its mark.
-#[derive(Drop)]
+#[derive(Clone, Copy)]
 pub enum ScriptRecord {
     SetSpace(Space),
     Bind,
@@ -17,7 +17,7 @@ pub enum ScriptRecord {
 
 // What the script program answers to a record: the capacity of the table that a granted `SP` emptied; a grant; an
 // address and what a look-up sees there; a refusal; or that the script ends there.
-#[derive(Drop)]
+#[derive(Clone, Copy)]
 pub enum Response {
     Emptied(usize),
     Granted(Grant),

@@ -15,7 +15,7 @@ use program::{Response, ScriptRecord};
 
 // What the program holds after a record (the list's count is `ranges`, the table's `count`), its answer, and how many bytes
 // the record takes.
-#[derive(Drop)]
+#[derive(Clone, Copy)]
 pub struct Stepped {
     pub space: Space,
     pub ranges: usize,
@@ -194,7 +194,7 @@ pub fn step(
 
 // The program between two records or operations: what it holds, the byte place of the next record in the whole script, and the
 // operations of the last grant that are still to be written, `left` of them from the one numbered `next` on.
-#[derive(Drop)]
+#[derive(Clone, Copy)]
 pub struct Progress {
     pub space: Space,
     pub ranges: usize,
@@ -206,7 +206,7 @@ pub struct Progress {
 }
 
 // Where a turn leaves the program, how many bytes it took, and where its text ends.
-#[derive(Drop)]
+#[derive(Clone, Copy)]
 pub struct Turned {
     pub progress: Progress,
     pub taken: usize,

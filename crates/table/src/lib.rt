@@ -19,7 +19,7 @@ const MOST_STEPS: usize = 13;
 
 // What takes the place of mappings: what is left of the first below a range, the new mapping, what is left of the last above
 // it. One of size 0 is none.
-#[derive(Drop)]
+#[derive(Clone, Copy)]
 pub struct Replacement {
     pub lower: Mapping,
     pub new: Mapping,
@@ -29,7 +29,7 @@ pub struct Replacement {
 // A search for the first mapping that ends behind a byte address: its place is one of the `left` from `lo` on, or right behind
 // them, after `looks` looks at one mapping each. Sparse ranges are searched in the same way, each as a mapping of its
 // addresses.
-#[derive(Drop)]
+#[derive(Clone, Copy)]
 pub struct Search {
     pub lo: usize,
     pub left: usize,

@@ -23,7 +23,7 @@ const OUTPUT_BYTES: usize = 12288;
 const MOST_PLACE: u64 = 0x8000_0000_0000_0000;
 
 // A run goes on, or how it ended.
-#[derive(Drop)]
+#[derive(Clone, Copy)]
 enum End {
     Going,
     Done,
@@ -34,7 +34,7 @@ enum End {
 
 // Between two reads: the unread bytes stand in the input from `from` up to `to`; no more come if they are the last.
 // The last round printed so many bytes, at the front of the output, and the system took so many of them.
-#[derive(Drop)]
+#[derive(Clone, Copy)]
 struct Run {
     progress: Progress,
     from: usize,
@@ -46,7 +46,7 @@ struct Run {
 }
 
 // What a read brought.
-#[derive(Drop)]
+#[derive(Clone, Copy)]
 enum Got {
     Bytes(usize),
     Nothing,
@@ -54,7 +54,7 @@ enum Got {
 }
 
 // How many bytes the system took, and whether these are all.
-#[derive(Drop)]
+#[derive(Clone, Copy)]
 struct Wrote {
     bytes: usize,
     all: bool,

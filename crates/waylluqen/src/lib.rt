@@ -20,7 +20,7 @@ use pages::Listing;
 
 // A space, as C hands it over.
 #[repr(C)]
-#[derive(Drop)]
+#[derive(Clone, Copy)]
 pub struct SpaceWords {
     pub start: u64,
     pub size: u64,
@@ -31,7 +31,7 @@ pub struct SpaceWords {
 // What a look-up answers C. Refusal 0: it is answered, `shown` is 0 where the address shows nothing, 1 where it shows an
 // object, 2 where it is sparse, and `bytes` is for how many bytes from there on that goes on in the same way.
 #[repr(C)]
-#[derive(Drop)]
+#[derive(Clone, Copy)]
 pub struct Translation {
     pub refusal: u64,
     pub place: u64,
@@ -44,7 +44,7 @@ pub struct Translation {
 // What a map or unmap answers C. Refusal 0: granted. `count` and `ranges` are the counts of the table and of the list
 // afterwards. On a refusal there is no operation, and the counts are those that came in.
 #[repr(C)]
-#[derive(Drop)]
+#[derive(Clone, Copy)]
 pub struct AnswerWords {
     pub refusal: u64,
     pub place: u64,
@@ -340,7 +340,7 @@ pub extern "C" fn waylluqen_bind_batch(
 
 // A mapping, as C hands it over.
 #[repr(C)]
-#[derive(Drop)]
+#[derive(Clone, Copy)]
 pub struct MappingWords {
     pub address: u64,
     pub size: u64,
@@ -350,7 +350,7 @@ pub struct MappingWords {
 
 // What a listing of page entries answers C. Refusal 0: so many entries are written.
 #[repr(C)]
-#[derive(Drop)]
+#[derive(Clone, Copy)]
 pub struct PagesWords {
     pub refusal: u64,
     pub place: u64,

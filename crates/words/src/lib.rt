@@ -5,7 +5,7 @@ ghost use Rattle.std.specs.Prelude.{◌≡◌, true, ◌+◌, ◌-◌, ◌*◌, 
 ghost use Rattle.words.specs.Words.{stored, moved, Tells, Blank, Joins, ZeroFrom};
 
 // Words joined bit by bit, four at a time: the first ones of each four, the second ones, and so on.
-#[derive(Drop)]
+#[derive(Clone, Copy)]
 struct Four {
     first: u64,
     second: u64,
