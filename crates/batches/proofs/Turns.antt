@@ -118,7 +118,7 @@ pub turns_serve : {A : Type 0} (s : Space) (room left p : ℕ) (rs : List Reques
 unfolding turns_rows decide
 turns_serve s room left p [] ms a h = inl refl
 turns_serve {A} s room left p (r ∷ rs) ms a h =
-    go (open_row room_at (fit_at ∷ rest) a) (open_row fit_at rest a) (turns_serve s room _ (suc p) rs (after r ms) a h.1)
+    go (open_row room_at (fit_at ∷ rest) a) (open_row fit_at rest a) (turns_serve s room (left - 14 * length (operations r ms)) (suc p) rs (after r ms) a h.1)
   where
     rest : List Row
     rest = turns_rows s room (left - 14 * length (operations r ms)) (suc p) rs (after r ms)

@@ -55,13 +55,21 @@ least_divides : (s : ℕ) (ts : List ℕ) → Ladder s ts → least s ts ∣ s
 least_divides s [] l = dvd_refl s
 least_divides s (t ∷ ts) l = dvd_trans (least t ts) (least_divides t ts l.2) (dvd_of_mod-eq-zero t l.1)
 
+one_divides : (z s : ℕ) (ts : List ℕ) → Ladder s ts → z ∈ (s ∷ ts) → z ∣ s
+one_divides z _ _ l (Memᴰ.tail {xs = []} i) = elim i [ ]
+one_divides z s ts l (Memᴰ.head d) = subst (λ (y : ℕ). y ∣ s) (sym d) (dvd_refl s)
+one_divides z s (t ∷ ts) l (Memᴰ.tail i) = dvd_trans z (one_divides z t ts l.2 i) (dvd_of_mod-eq-zero t l.1)
+
 pub size_divides : (s : ℕ) (ts : List ℕ) → Ladder s ts → (z : ℕ) → z ∈ (s ∷ ts) → z ∣ s
-size_divides s ts l z (Memᴰ.head d) = subst (λ (y : ℕ). y ∣ s) (sym d) (dvd_refl s)
-size_divides s (t ∷ ts) l z (Memᴰ.tail i) = dvd_trans z (size_divides t ts l.2 z i) (dvd_of_mod-eq-zero t l.1)
+size_divides s ts l z i = one_divides z s ts l i
+
+one_some : (z s : ℕ) (ts : List ℕ) → Ladder s ts → z ∈ (s ∷ ts) → 0 < z
+one_some z _ _ l (Memᴰ.tail {xs = []} i) = elim i [ ]
+one_some z s ts l (Memᴰ.head d) = omega (arith, d, ladder_some s ts l)
+one_some z s (t ∷ ts) l (Memᴰ.tail i) = one_some z t ts l.2 i
 
 pub size_some : (s : ℕ) (ts : List ℕ) → Ladder s ts → (z : ℕ) → z ∈ (s ∷ ts) → 0 < z
-size_some s ts l z (Memᴰ.head d) = omega (arith, d, ladder_some s ts l)
-size_some s (t ∷ ts) l z (Memᴰ.tail i) = size_some t ts l.2 z i
+size_some s ts l z i = one_some z s ts l i
 
 -- ── pages of one size ──
 

@@ -40,6 +40,7 @@ entry_at a b x (e ∷ es) t h k = go (order (stop_of e) x) (λ l. entry_at (stop
     go (inr l) ih = (e, Memᴰ.head refl, (omega (arith, t.0, h), l))
 
 entry_inside : (a b : ℕ) (es : List Entry) (e : Entry) → Tiles a b es → e ∈ es → Within a b e
+entry_inside a b [] e t x'' = elim x'' [ ]
 entry_inside a b (c ∷ es) e t (Memᴰ.head d) =
     subst (Within a b) (sym d) (omega (arith, t.0), tiles_le (stop_of c) b es t.2)
 entry_inside a b (c ∷ es) e t (Memᴰ.tail i) =
@@ -47,6 +48,7 @@ entry_inside a b (c ∷ es) e t (Memᴰ.tail i) =
     (omega (arith, t.0, r.0), r.1)
 
 one_at : (a b x : ℕ) (es : List Entry) (c d : Entry) → Tiles a b es → c ∈ es → d ∈ es → At x c → At x d → c ≡ d
+one_at a b x [] c d t x7 _ h k = elim x7 [ ]
 one_at a b x (e ∷ es) c d t (Memᴰ.head p) (Memᴰ.head q) h k = p ∙ sym q
 one_at a b x (e ∷ es) c d t (Memᴰ.head p) (Memᴰ.tail j) h k =
     let l = subst (At x) p h in
@@ -59,11 +61,15 @@ one_at a b x (e ∷ es) c d t (Memᴰ.tail i) (Memᴰ.tail j) h k = one_at (stop
 -- ── pages ──
 
 -- of two sizes one divides the other
-sizes_divide : (s : ℕ) (ts : List ℕ) → Ladder s ts → (y z : ℕ) → y ∈ (s ∷ ts) → z ∈ (s ∷ ts) → (y ∣ z) ⊎ (z ∣ y)
-sizes_divide s ts l y z (Memᴰ.head d) j = inr (subst (λ (x : ℕ). z ∣ x) (sym d) (size_divides s ts l z j))
-sizes_divide s ts l y z (Memᴰ.tail i) (Memᴰ.head d) =
+two_divide : (y z s : ℕ) (ts : List ℕ) → Ladder s ts → y ∈ (s ∷ ts) → z ∈ (s ∷ ts) → (y ∣ z) ⊎ (z ∣ y)
+two_divide y z _ _ l (Memᴰ.tail {xs = []} i) (Memᴰ.tail j) = elim i [ ]
+two_divide y z s ts l (Memᴰ.head d) j = inr (subst (λ (x : ℕ). z ∣ x) (sym d) (size_divides s ts l z j))
+two_divide y z s ts l (Memᴰ.tail i) (Memᴰ.head d) =
     inl (subst (λ (x : ℕ). y ∣ x) (sym d) (size_divides s ts l y (Memᴰ.tail i)))
-sizes_divide s (t ∷ ts) l y z (Memᴰ.tail i) (Memᴰ.tail j) = sizes_divide t ts l.2 y z i j
+two_divide y z s (t ∷ ts) l (Memᴰ.tail i) (Memᴰ.tail j) = two_divide y z t ts l.2 i j
+
+sizes_divide : (s : ℕ) (ts : List ℕ) → Ladder s ts → (y z : ℕ) → y ∈ (s ∷ ts) → z ∈ (s ∷ ts) → (y ∣ z) ⊎ (z ∣ y)
+sizes_divide s ts l y z i j = two_divide y z s ts l i j
 
 page_of : (sizes : List ℕ) (m : Mapping) (e : Entry) → PageIn sizes m e → PageOf sizes m e
 page_of sizes m e p = record {
