@@ -14,7 +14,7 @@ loop-i-preserved c = (
   λ few clean.
       let both = c.join-seen.ensures clean in
       let before = c.loop-i.invariant.1 few both.0 in
-      pass_next before few c.loop-i-test.true c.read_mapping-m.ensures both.1 c.wrapping_add_u64-end.ensures,
+      pass_next before few c.loop-i-test.true c.read_mapping-m.ensures both.1 c.wrapping_add_u64-end.ensures.value,
 )
 
 pub returns : goal.returns
