@@ -1,6 +1,6 @@
 -- The operations that a granted request wrote are read as they were written, and their lines are to come.
 -- Assumes nothing.
-use mathlib.Core.Path.{◌≡◌, refl, ap, ◌∙◌}
+use mathlib.Core.Path.{◌≡◌, refl, sym, ap, subst, ◌∙◌}
 use mathlib.Core.Logic.{◌⊎◌, ⊎_elim, ⊎_map}
 use mathlib.Core.Option.{some}
 use mathlib.Core.List.{List, [], ◌∷◌, ◌++◌, append_assoc, flat_map}
@@ -28,7 +28,7 @@ use Rattle.model.proofs.Operations.{operations-words}
 use Rattle.model.proofs.Replays.{replay_claim}
 use Rattle.model.proofs.OperationWords.{operation_length, Own, own_operations}
 use Rattle.program.proofs.Order.{runs_in_order}
-use Rattle.script.specs.Progress.{operation_at, pending, Known, Outstanding}
+use Rattle.script.specs.Progress.{listed_lines, operation_at, pending, Known, Outstanding}
 
 -- the i-th, behind what was written before
 written_at : (front : List ℕ) (i : ℕ) (o : Operation) (rest : List ℕ) → length front ≡ 14 * i → Own o
@@ -47,9 +47,14 @@ written_from front i (o ∷ ops) tail h own =
     let n : length (front ++ words_of_operation o) ≡ 14 * suc i = simp length-append (omega (arith, operation_length o)) in
     let d : front ++ ((words_of_operation o ++ flat_map words_of_operation ops) ++ tail) ≡ front ++ (words_of_operation o ++ rest) = simp append_assoc in
     let e : front ++ (words_of_operation o ++ rest) ≡ (front ++ words_of_operation o) ++ rest = simp append_assoc in
-    let at = written_at front i o rest h own.0 in
+    let at : operation_at ((front ++ words_of_operation o) ++ rest) i ≡ some o =
+    ap (λ (ws : List ℕ). operation_at ws i) (sym e) ∙ written_at front i o rest h own.0 in
     let behind = written_from (front ++ words_of_operation o) (suc i) ops tail n own.1 in
-    rw (d, at) (rw e (ap (◌++◌ (operation_lines o)) behind.0, ((o, refl), behind.1)))
+    subst
+    (λ (ws : List ℕ). (listed_lines (operation_at ws i) ++ pending ws (suc i) (length ops) ≡ operation_lines o ++ flat_map operation_lines ops)
+    × (((x : Operation) × (operation_at ws i ≡ some x)) × Known ws (suc i) (length ops)))
+    (sym (d ∙ e))
+    (rw at (ap (◌++◌ (operation_lines o)) behind.0, ((o, refl), behind.1)))
 
 -- what a step that grants leaves in the operation slice
 pub record Wrote (st : State) (bs : List ℕ) (os : List ℕ) (g : Grant) : Type 0 where
