@@ -69,7 +69,7 @@ fn first_difference(a: &[u64], b: &[u64]) -> usize
 }
 
 // Says where words differ from the expected ones: 1 if they do, else 0.
-fn compare(name: &[u8], words: &[u64], expected: &[u64]) -> usize
+fn compare(rt: &impl Print, name: &[u8], words: &[u64], expected: &[u64]) -> usize
     requires { length words.now ≡ length expected.now }
     ensures { result ≤ 1 }
 {
@@ -77,43 +77,51 @@ fn compare(name: &[u8], words: &[u64], expected: &[u64]) -> usize
     if place == words.len() {
         return 0;
     }
-    show::text(b" DIFFERS: ");
-    show::text(name);
-    show::number(b" word ", place as u64);
+    show::text(rt, b" DIFFERS: ");
+    show::text(rt, name);
+    show::number(rt, b" word ", place as u64);
     1
 }
 
 // The first half of a row's line, from the words that the call is given: what is mapped stands at
 // the head of its words.
-fn show_question(label: u32, room: usize, table: &[u64], count: u64, request: &[u64; 32]) {
-    show::number(b"| ", label as u64);
-    show::text(b" | ");
-    show::records(table, count, 4);
+fn show_question(
+    rt: &impl Print,
+    label: u32,
+    room: usize,
+    table: &[u64],
+    count: u64,
+    request: &[u64; 32],
+) {
+    show::number(rt, b"| ", label as u64);
+    show::text(rt, b" | ");
+    show::records(rt, table, count, 4);
     if room != 8 {
-        show::number(b", capacity ", room as u64);
+        show::number(rt, b", capacity ", room as u64);
     }
-    show::text(b" | map ");
-    show::mapping(request, 0);
-    show::text(b" | ");
+    show::text(rt, b" | map ");
+    show::mapping(rt, request, 0);
+    show::text(rt, b" | ");
 }
 
 // The second half, from the words that the call answers and leaves. A refusal leaves the count.
-fn show_result(answer: &[u64; 4], table: &[u64], count: u64, operations: &[u64]) {
+fn show_result(rt: &impl Print, answer: &[u64; 4], table: &[u64], count: u64, operations: &[u64]) {
     if answer[0] != 0 {
-        show::number(b"refused ", answer[0]);
-        show::text(b" | ");
-        show::records(table, count, 4);
+        show::number(rt, b"refused ", answer[0]);
+        show::text(rt, b" | ");
+        show::records(rt, table, count, 4);
         return;
     }
-    show::records(operations, answer[2], 14);
-    show::number(b"; operations ", answer[2]);
-    show::number(b", count ", answer[3]);
-    show::text(b" | ");
-    show::records(table, answer[3], 4);
+    show::records(rt, operations, answer[2], 14);
+    show::number(rt, b"; operations ", answer[2]);
+    show::number(rt, b", count ", answer[3]);
+    show::text(rt, b" | ");
+    show::records(rt, table, answer[3], 4);
 }
 
 // The end of a row's line: every word against what the row's last two columns say.
 fn differs(
+    rt: &impl Print,
     answer: &[u64; 4],
     table: &[u64; 32],
     operations: &[u64; 126],
@@ -123,16 +131,16 @@ fn differs(
     requires { (res.count ≤ 32) × (new.count ≤ 32) }
     ensures { result ≤ 1 }
 {
-    show::text(b" |");
-    let a = compare(b"answer", answer, &rows::answer_words(res, new));
-    let t = compare(b"table", table, &rows::table_words(new));
-    let o = compare(b"operations", operations, &rows::operation_words(res));
-    show::text(b"\n");
+    show::text(rt, b" |");
+    let a = compare(rt, b"answer", answer, &rows::answer_words(res, new));
+    let t = compare(rt, b"table", table, &rows::table_words(new));
+    let o = compare(rt, b"operations", operations, &rows::operation_words(res));
+    show::text(rt, b"\n");
     if a + t + o == 0 { 0 } else { 1 }
 }
 
 // Runs and prints one row: 1 if a word differs from what the row expects, else 0.
-fn row(line: &[u8]) -> usize
+fn row(rt: &impl Print, line: &[u8]) -> usize
     ensures { result ≤ 1 }
 {
     let label = rows::read_column(line, 1);
@@ -145,10 +153,10 @@ fn row(line: &[u8]) -> usize
     let count = old.count / 4;
     let room = rows::room(label);
     let mapping = rows::table_words(request);
-    show_question(label.numbers[0], room, &table, count as u64, &mapping);
+    show_question(rt, label.numbers[0], room, &table, count as u64, &mapping);
     let answer = ask(room, &mut table, count, &mut operations, &mapping);
-    show_result(&answer, &table, count as u64, &operations);
-    differs(&answer, &table, &operations, result, new)
+    show_result(rt, &answer, &table, count as u64, &operations);
+    differs(rt, &answer, &table, &operations, result, new)
 }
 
 // Where the line from `from` on ends.
@@ -167,19 +175,19 @@ fn line_end(text: &[u8], from: usize) -> usize
 }
 
 // Runs every line of a table, and says how many rows there are and how many differ.
-fn run(text: &[u8]) {
+fn run(rt: &impl Print, text: &[u8]) {
     let mut rows: usize = 0;
     let mut differ: usize = 0;
     let mut at = 0;
     while at < text.len() {
         let end = line_end(text, at);
-        differ += row(&text[at..end]);
+        differ += row(rt, &text[at..end]);
         rows += 1;
         at = end + 1;
     }
-    show::number(b"", rows as u64);
-    show::number(b" rows, ", differ as u64);
-    show::text(b" differ\n");
+    show::number(rt, b"", rows as u64);
+    show::number(rt, b" rows, ", differ as u64);
+    show::text(rt, b" differ\n");
 }
 
 // A row: label; old mappings; what to map; the operations, each with its kind, keep, mapping, lower
@@ -187,9 +195,13 @@ fn run(text: &[u8]) {
 // offset 1. A `-` is an absent rest. 1 to 16 are document 000's, 17 to 19 document 01's unmarked ones,
 // 20 to 23 of document 02's keep mark: 13 and 14 with contiguous offsets; offsets below the address;
 // one below it and one above.
-fn main() {
-    show::text(b"| | old | request | result | table afterwards |\n|---|---|---|---|---|\n");
+fn main(rt: HostRuntime) {
+    show::text(
+        &rt,
+        b"| | old | request | result | table afterwards |\n|---|---|---|---|---|\n",
+    );
     run(
+        &rt,
         b"| 1 | [0,1) 7@1 | [0,1) 7@1 | unmap keep 1 [0,1) 7@1 - -, map keep 0 [0,1) 7@1 - - | [0,1) 7@1 |
 | 2 | [0,1) 7@1 | [0,1) 7@4 | unmap keep 0 [0,1) 7@1 - -, map keep 0 [0,1) 7@4 - - | [0,1) 7@4 |
 | 3 | [0,1) 7@1 | [0,1) 9@1 | unmap keep 0 [0,1) 7@1 - -, map keep 0 [0,1) 9@1 - - | [0,1) 9@1 |

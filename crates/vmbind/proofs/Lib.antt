@@ -1,4 +1,3 @@
-pub mod Answers
 pub mod Refills
 pub mod Rounds
 pub mod Runs

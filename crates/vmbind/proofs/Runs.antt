@@ -2,12 +2,10 @@
 -- Assumes nothing.
 use mathlib.Core.Path.{◌≡◌, refl, ap, subst, ◌∙◌}
 use mathlib.Core.Logic.{inl}
-use mathlib.Core.List.{List, [], ◌∷◌, ◌++◌, append-nil}
+use mathlib.Core.List.{List, [], ◌++◌, append-nil}
 use Prim.Native.Nat.{ℕ, ◌+◌, ◌≤◌}
 use native.Mathlib.Omega.{arith}
 use lib.ListN.{length, take, length-take}
-use denote.Enum.Declared.{tag_of}
-use types.Run.{OneOf, miss}
 use Rattle.program.specs.Script.{output}
 use Rattle.words.proofs.Stored.{take-stored-end}
 use Rattle.text.specs.Lines.{Put}
@@ -17,7 +15,6 @@ use Rattle.script.proofs.Streaming.{prints}
 use Rattle.vmbind.specs.declared.End.{End}
 use Rattle.vmbind.specs.declared.End.TheVariants.{Going, Done, ReadFailed, WriteFailed, TooLong}
 use Rattle.vmbind.specs.declared.Run.{Run}
-use Rattle.vmbind.specs.contracts.End.{the_type}
 use Rattle.vmbind.specs.Buffers.{unread, Held, Ends, Carries, Rounds, no_round, next, Over, Ran}
 
 pub one_more : {n m : ℕ} {text : List ℕ} {run r : Run} {rs ws os input rs' ws' os' input' out' : List ℕ} → Rounds n text run rs ws os input
@@ -55,11 +52,11 @@ ran {n} {text} {r} {input = input} e s over =
 
 -- a round that does not go on ends the run
 pub ran_ended : {n : ℕ} {text : List ℕ} {r : Run} {rs ws os input : List ℕ} → Rounds n text r rs ws os input
-    → OneOf (1 ∷ 2 ∷ 3 ∷ 4 ∷ []) (tag_of the_type r.end) → Ends r.end r input → Ran r.end rs ws os input
+    → (r.end ≡ Going → ⊥) → Ends r.end r input → Ran r.end rs ws os input
 ran_ended {n} {r = r} {input = input} s k ends = ran r.end s (by r.end k ends)
   where
-    by : (e : End) → OneOf (1 ∷ 2 ∷ 3 ∷ 4 ∷ []) (tag_of the_type e) → Ends e r input → Over e r input n
-    by Going k ends = miss (1 ∷ 2 ∷ 3 ∷ 4 ∷ []) 0 tt k
+    by : (e : End) → (e ≡ Going → ⊥) → Ends e r input → Over e r input n
+    by Going k ends = k refl
     by Done k ends = ends
     by ReadFailed k ends = ends
     by WriteFailed k ends = ends

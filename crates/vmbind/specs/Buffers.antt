@@ -1,7 +1,7 @@
 -- The unread bytes in the input buffer, what reading, printing and writing leave of a stream, and how a run ends.
 -- Assumes nothing.
 use Prim.Native.String.{String}
-use Rattle.std.specs.Prelude.{◌≡◌, ◌⊎◌, Bool, true, false, List, [], ◌++◌, ℕ, zero, suc, ◌+◌, ◌-◌, ◌*◌, ◌^◌, ◌≤◌, ◌<◌, min, ℤ, pos, negsuc, length, take, drop}
+use Rattle.std.specs.Prelude.{◌≡◌, ◌⊎◌, Bool, true, false, List, [], ◌++◌, ℕ, zero, suc, ◌+◌, ◌-◌, ◌*◌, ◌^◌, ◌≤◌, ◌<◌, min, Result, Ok, Err, length, take, drop}
 use Rattle.program.specs.Script.{start, output}
 use Rattle.script.specs.declared.Turned.{Turned}
 use Rattle.script.specs.Progress.{Outstanding, start_progress, Idle}
@@ -63,9 +63,9 @@ got_bytes zero = Nothing
 got_bytes (suc n) = Bytes (suc n)
 
 -- a read's answer, where there was room for n bytes
-abbrev pub got_of : ℤ → ℕ → Got
-got_of (negsuc k) n = Failure
-got_of (pos k) n = got_bytes (min k n)
+abbrev pub got_of : {E : Type 0} → Result ℕ E → ℕ → Got
+got_of (Err e) n = Failure
+got_of (Ok k) n = got_bytes (min k n)
 
 abbrev pub bytes_in : Got → ℕ
 bytes_in (Bytes n) = n

@@ -10,8 +10,9 @@ ghost use Rattle.script.specs.Progress.{Advances};
 ghost use Rattle.vmbind.specs.Buffers.{got_of, unread, standing, behind, message};
 ghost use Rattle.vmbind.specs.Buffers.{Below64KiB, Brings, Refilled, Writes, Held, Carries, Ran};
 
-use libc::{STDERR_FILENO, STDIN_FILENO, STDOUT_FILENO};
 use script::{Progress, Turned};
+use std::io;
+use std::io::{Read, Stdin, Stdout, Write};
 
 // The input and the output; with the list, the table and the operations of a request on it the buffers are 58,480 bytes
 // together (`Below64KiB`).
@@ -60,14 +61,14 @@ struct Wrote {
     all: bool,
 }
 
-// What a read's answer says, where there was room for some bytes: a negative one is a failure, and none is the end.
-fn brought(answer: isize, rest: &[u8]) -> Got
+// What a read's answer says, where there was room for some bytes: an error is a failure, and none is the end.
+fn brought(answer: io::Result<usize>, rest: &[u8]) -> Got
     ensures { result ≡ got_of answer (length rest.now) }
 {
-    if answer < 0 {
+    let Ok(count) = answer else {
         return Got::Failure;
-    }
-    let n = io::count(answer, rest);
+    };
+    let n = count.min(rest.len());
     if n == 0 {
         return Got::Nothing;
     }
@@ -75,22 +76,22 @@ fn brought(answer: isize, rest: &[u8]) -> Got
 }
 
 // Reads once, behind the bytes that are kept. There is room for one more, so that no byte means the end of the input.
-fn read_behind(input: &mut [u8], kept: usize) -> Got
+fn read_behind(mut stdin: Stdin, input: &mut [u8], kept: usize) -> Got
     requires { kept < length input.old }
     ensures { Brings input.old kept result input.new }
 {
-    let answer = libc::read(STDIN_FILENO, &mut input[kept..]);
+    let answer = stdin.read(&mut input[kept..]);
     brought(answer, &input[kept..])
 }
 
 // Keeps the unread bytes, and reads more behind them.
-fn refill(input: &mut [u8], run: Run) -> Run
+fn refill(stdin: Stdin, input: &mut [u8], run: Run) -> Run
     requires { (run.from ≤ run.to) × (run.to < run.from + length input.old) × (run.to ≤ length input.old) }
     ensures { Refilled run input.old result input.new }
 {
     let progress = run.progress;
     let kept = script::keep_unread(input, run.from, run.to);
-    match read_behind(input, kept) {
+    match read_behind(stdin, input, kept) {
         Got::Bytes(n) => Run {
             progress,
             from: 0,
@@ -148,22 +149,25 @@ fn print(
     )
 }
 
-// Hands over bytes, of which there are some; the system may take fewer.
-fn write_some(text: &[u8]) -> usize
+// Hands over bytes, of which there are some; the system may take fewer, and takes none where it fails.
+fn write_some(mut stdout: Stdout, text: &[u8]) -> usize
     requires { 0 < length text.now }
     ensures { result ≤ length text.now }
 {
-    io::count(libc::write(STDOUT_FILENO, text), text)
+    match stdout.write(text) {
+        Ok(n) => n,
+        Err(_) => 0,
+    }
 }
 
 // Writes the output up to `end`. A write that takes nothing has failed.
-fn write_out(output: &[u8], end: usize) -> Wrote
+fn write_out(stdout: Stdout, output: &[u8], end: usize) -> Wrote
     requires { end ≤ length output.now }
     ensures { Writes end result }
 {
     let mut at: usize = 0;
     while at < end {
-        let n = write_some(&output[at..end]);
+        let n = write_some(stdout, &output[at..end]);
         if n == 0 {
             return Wrote {
                 bytes: at,
@@ -213,6 +217,8 @@ fn stands(run: Run, printed: usize, written: usize, end: End) -> Run
 
 // Prints what the bytes at hand give, writes it, and reads more where the program waits for them.
 fn round(
+    stdin: Stdin,
+    stdout: Stdout,
     ranges: &mut [u64],
     table: &mut [u64],
     operations: &mut [u64],
@@ -230,7 +236,7 @@ fn round(
     let t = print(run, ranges, table, operations, input, output);
     let end = t.end;
     let next = turned(run, t);
-    let wrote = write_out(output, end);
+    let wrote = write_out(stdout, output, end);
     if !wrote.all {
         return stands(next, end, wrote.bytes, End::WriteFailed);
     }
@@ -240,11 +246,13 @@ fn round(
     if next.progress.stopped {
         return stands(next, end, wrote.bytes, End::Done);
     }
-    refill(input, stands(next, end, wrote.bytes, End::Going))
+    refill(stdin, input, stands(next, end, wrote.bytes, End::Going))
 }
 
 // Rounds on buffers that are together below 64 KiB, until one ends the run. No script has as many as are counted.
 fn follow(
+    stdin: Stdin,
+    stdout: Stdout,
     ranges: &mut [u64],
     table: &mut [u64],
     operations: &mut [u64],
@@ -265,7 +273,7 @@ fn follow(
     };
     let mut rounds = u64::MAX;
     while 0 < rounds {
-        run = round(ranges, table, operations, input, output, run);
+        run = round(stdin, stdout, ranges, table, operations, input, output, run);
         let end = run.end;
         let End::Going = end else {
             return end;
@@ -288,13 +296,15 @@ fn put_message(out: &mut [u8; OUTPUT_BYTES], end: End) -> usize
     }
 }
 
-fn main() {
+fn main(rt: HostRuntime) {
     let mut ranges = [0u64; 128];
     let mut table = [0u64; 1024];
     let mut operations = [0u64; 3598];
     let mut input = [0u8; INPUT_BYTES];
     let mut output = [0u8; OUTPUT_BYTES];
     let end = follow(
+        rt.stdin(),
+        rt.stdout(),
         &mut ranges,
         &mut table,
         &mut operations,
@@ -302,5 +312,5 @@ fn main() {
         &mut output,
     );
     let n = put_message(&mut output, end);
-    io::write_all(STDERR_FILENO, &output[..n]);
+    let _ = rt.stderr().write_all(&output[..n]);
 }
