@@ -19,7 +19,7 @@ use Rattle.model.proofs.Groups.{LentPassed, lent_passed, other_between}
 use Rattle.model.proofs.Store.{length-mappings}
 use Rattle.model.proofs.Granted.{Good}
 use Rattle.batches.proofs.Relent.{relent_same}
-use Rattle.batches.specs.Batch.{requests_in, batch_row, work_row, batch_rows, turns_rows, batch_grant, BatchOutcome, batch_outcome, turns, bind_batch}
+use Rattle.batches.specs.Batch.{requests_in, batch_row, work_row, batch_rows, turns_rows, batch_outcome, turns, bind_batch}
 use Rattle.request.specs.Bound.{Checked}
 use Rattle.request.proofs.Checked.{checked_of}
 use Rattle.change.specs.Change.{Changed}

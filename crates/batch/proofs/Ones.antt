@@ -17,7 +17,7 @@ use Rattle.model.specs.Cut.{after}
 use Rattle.model.specs.Calls.{Lent, Outcome}
 use Rattle.model.specs.Demand3.{Holds}
 use Rattle.model.proofs.Tests.{tests, or_cases}
-use Rattle.model.proofs.Rows.{past, passed_split, answered_passed, and_then, decide-append}
+use Rattle.model.proofs.Rows.{passed_split, answered_passed, and_then, decide-append}
 use Rattle.model.proofs.Groups.{form_passed, request_passed}
 use Rattle.model.proofs.Chain.{Chain}
 use Rattle.model.proofs.Table.{top, chain_good}

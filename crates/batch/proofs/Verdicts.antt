@@ -1,15 +1,13 @@
 -- The batch's own rows, by what the checks answer.
 -- Assumes nothing.
-use mathlib.Core.Path.{◌≡◌, sym, ap, ◌∙◌}
-use mathlib.Core.Bool.{Bool, true, false}
+use mathlib.Core.Path.{◌≡◌}
 use mathlib.Core.List.{List, ◌∷◌}
 use Prim.Native.Nat.{ℕ}
-use lib.Dec.{eqb}
 use lib.ListN.{length}
 use borrow.Author.Tests.{eq-eqb, ne_eqb}
-use Rattle.model.specs.Rows.{all, choose, Row, Reply, refused, verdict, decide}
+use Rattle.model.specs.Rows.{Row, Reply, refused, verdict, decide}
 use Rattle.model.specs.Table.{Table}
-use Rattle.batches.specs.Batch.{batch_row, work_row}
+use Rattle.batches.specs.Batch.{work_row}
 
 module _ (n : ℕ) (t : Table) (ws : List Row) where
   pub work_refused : (n ≡ length t.words → ⊥) → refused 15 0 ≡ verdict (work_row n t ∷ ws)

@@ -18,7 +18,7 @@ use Rattle.model.specs.Demand3.{IsGrant}
 use Rattle.model.proofs.Tests.{Alls, tests, all_facts, not_facts}
 use Rattle.model.proofs.Rows.{and_then, Passed, past, passes, answered_passed, not_both}
 use Rattle.model.proofs.Store.{length-mappings, holds_rewritten}
-use Rattle.model.proofs.Groups.{LentPassed, lent_passed, passed_lent, other_between}
+use Rattle.model.proofs.Groups.{lent_passed, passed_lent, other_between}
 use Rattle.model.proofs.Ask.{Asked}
 use Rattle.model.proofs.Granted.{Good, table_chain, relent, good_relent}
 use Rattle.model.proofs.Demand3.{HoldsLent}

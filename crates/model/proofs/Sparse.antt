@@ -11,7 +11,7 @@ use Rattle.model.specs.Prelude.{Range, Space, Mapping, Request, Nothing, Sparse,
 use Rattle.model.specs.Rows.{Reply, refused, answered}
 use Rattle.model.specs.Table.{mappings}
 use Rattle.model.specs.Ranges.{ranges, list_tests, insert_range, remove_range}
-use Rattle.model.specs.Calls.{Asking, asked, Lent, lent_rows, Purpose, adds, removes, purpose, range_of, last_rows, list_grant, grant_for, Outcome, cut, relisted, outcome_for, bind, ranges_count_after, lent_after, see_in, lookup}
+use Rattle.model.specs.Calls.{Asking, asked, Lent, lent_rows, Purpose, purpose, range_of, last_rows, list_grant, grant_for, Outcome, cut, relisted, outcome_for, bind, ranges_count_after, lent_after, see_in, lookup}
 use Rattle.model.specs.Exactly.{◌∈◌, RangeRules, ListRules, TableRules, Unflagged}
 use Rattle.model.specs.Grants.{off_mappings, shows}
 use Rattle.model.specs.Lookups.{Has, Free, InRange, NoRange}

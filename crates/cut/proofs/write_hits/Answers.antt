@@ -1,5 +1,4 @@
 use mathlib.Core.Path.{◌≡◌, refl, sym, subst, ◌∙◌}
-use Prim.Native.Nat.{◌-◌}
 use native.Mathlib.Omega.{arith}
 use Rattle.table.proofs.Places.{valid_at}
 use Rattle.cut.specs.Operations.{Hit}

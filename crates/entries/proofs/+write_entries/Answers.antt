@@ -6,9 +6,6 @@ use Rattle.entries.specs.Levels.{Wrote}
 use Rattle.entries.proofs.Levels.{a_first, first_last, lower_is, middle_is, upper_is, lower-part, upper-part, middle_bounded}
 use Rattle.entries.proofs.Counts.{cover-least, cover-below, agrees, parts-cover, parts-length}
 use Rattle.entries.proofs.Written.{wrote_long, wrote_behind}
-use Rattle.entries.proofs.write_pages.Reads as pages
-use Rattle.entries.proofs.first_cut.Reads as first
-use Rattle.entries.proofs.last_cut.Reads as last
 use Rattle.entries.proofs.+write_entries.Goals as goal
 
 pub write_pages-requires : goal.write_pages-requires

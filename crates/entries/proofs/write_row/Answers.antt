@@ -1,4 +1,3 @@
-use Prim.Native.Nat.{◌-◌}
 use native.Mathlib.Omega.{arith}
 use Rattle.entries.proofs.Written.{row-start, row_long, row_reach, row_next, row-end}
 use Rattle.entries.proofs.write_row.Goals as goal

@@ -1,5 +1,5 @@
 use mathlib.Core.Bool.{and-eq-true_iff}
-use Rattle.std.proofs.Common.{◌-◌, leb, arith, rules, leb-true}
+use Rattle.std.proofs.Common.{leb, arith, rules, leb-true}
 use Rattle.inspect.proofs.Quick.{pass_start, pass_next, pass_end}
 use Rattle.inspect.proofs.all_fit.Goals as goal
 

@@ -1,4 +1,4 @@
-use Rattle.std.proofs.Common.{◌-◌, arith, rules}
+use Rattle.std.proofs.Common.{arith, rules}
 use Rattle.rules.proofs.Laws.{held, failed}
 use Rattle.inspect.proofs.Fits.{fits_end}
 use Rattle.inspect.proofs.Bad.{bad_next, bad_here, bad_end}

@@ -1,5 +1,4 @@
 use mathlib.Core.Path.{refl}
-use Prim.Native.Nat.{◌-◌}
 use native.Mathlib.Omega.{arith}
 use Rattle.rules.proofs.Laws.{held, failed}
 use Rattle.ranges.proofs.Fits.{fit_next, fit_not, fit_end, fits_end}

@@ -2,7 +2,7 @@ use mathlib.Core.Path.{ap, ◌∙◌}
 use native.Mathlib.Omega.{arith}
 use Rattle.table.proofs.Halving.{halved_less}
 use Rattle.table.proofs.Looks.{looks_start, looks_place, looks_halvable, looks_next, looks_end}
-use Rattle.ranges.specs.Lists.{range_at, as_mapping}
+use Rattle.ranges.specs.Lists.{range_at}
 use Rattle.ranges.proofs.Places.{valid_held}
 use Rattle.ranges.proofs.Looks.{valid_order, looked_at}
 use Rattle.ranges.proofs.halve.Goals as goal

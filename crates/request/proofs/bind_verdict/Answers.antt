@@ -1,7 +1,6 @@
 use mathlib.Core.Path.{sym, ap, subst, ◌∙◌}
-use mathlib.Core.Logic.{inl, inr}
 use lib.Dec.{T}
-use borrow.Author.Tests.{not-true, not-false}
+use borrow.Author.Tests.{not-true}
 use Rattle.model.specs.Calls.{verdict_reply}
 use Rattle.request.specs.Bound.{lent_words}
 use Rattle.request.proofs.Checked.{front_refused, front_by}

@@ -1,4 +1,3 @@
-use Prim.Native.Nat.{◌-◌}
 use native.Mathlib.Omega.{arith}
 use Rattle.script.proofs.Advancing.{far_start, far_ready, far_next, far_idle, far_full}
 use Rattle.script.proofs.advance.Goals as goal

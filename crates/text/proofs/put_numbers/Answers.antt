@@ -1,4 +1,3 @@
-use Prim.Native.Nat.{◌-◌}
 use native.Mathlib.Omega.{arith}
 use Rattle.text.proofs.Numbers.{numbers_start, numbers_next, numbers_end}
 use borrow.Author.Rules.{rules}
