@@ -2,7 +2,7 @@
 -- Assumes nothing.
 use mathlib.Core.Path.{◌≡◌, refl, sym, ap, subst, ◌∙◌}
 use mathlib.Core.Bool.{Bool}
-use mathlib.Core.Option.{Option, some, bind as Option·bind}
+use mathlib.Core.Option.{Option, some, bind as bind_option}
 use mathlib.Core.List.{List, [], ◌∷◌, ◌++◌, flat_map}
 use Prim.Native.Nat.{ℕ, zero, suc, ◌+◌, ◌*◌, ◌<◌}
 use native.Mathlib.Omega.{arith}
@@ -32,11 +32,11 @@ use Rattle.batches.proofs.Batch.{Granting, may, fits, room}
 use Rattle.batches.proofs.Relent.{relent_mappings}
 
 replays_all : (rs : List Request) (ms : List Mapping) → Each (λ r. 0 < r.size) rs → Run 0 ms → replay (operations_all rs ms) ms ≡ some (after_all rs ms)
-unfolding operations_all after_all replay Option·bind
+unfolding operations_all after_all replay bind_option
 replays_all [] ms z run = refl
 replays_all (r ∷ rs) ms z run =
     replay-append (operations r ms) (operations_all rs (after r ms)) ms
-    ∙ ap (λ (o : Option (List Mapping)). Option·bind o (replay (operations_all rs (after r ms)))) (replays r ms z.0 run)
+    ∙ ap (λ (o : Option (List Mapping)). bind_option o (replay (operations_all rs (after r ms)))) (replays r ms z.0 run)
     ∙ replays_all rs (after r ms) z.1 (run-after r ms run z.0)
 
 one_map : (r : Request) → length (new r) ≡ choose (eqb r.op 0) 1 0

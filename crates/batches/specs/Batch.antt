@@ -1,5 +1,6 @@
 -- A batch (document 02, Item 2): 0 to 64 request records in a row, of which all are granted or none.
-use Rattle.model.specs.Prelude.{List, [], ◌∷◌, ◌++◌, map, flat_map, ℕ, zero, suc, ◌-◌, ◌*◌, ◌/◌, ◌%◌, leb, eqb, length, take, drop, replicate}
+use Rattle.std.specs.Prelude.{List, [], ◌∷◌, ◌++◌, map, ℕ, zero, suc, ◌-◌, ◌*◌, ◌/◌, ◌%◌, leb, eqb, length, take, drop, replicate}
+use mathlib.Core.List.{flat_map}
 use Rattle.model.specs.Rows.{Row, row, placed, Reply, refused, answered, decide, verdict}
 use Rattle.model.specs.Rules.{form_rows, request_rows}
 use Rattle.model.specs.Table.{Table, capacity, mappings, written, operations_row}

@@ -1,6 +1,6 @@
 -- Demand 3 with batches (document 02, Item 2): in a series, batches of pieces may stand beside or instead of single
 -- requests. With single requests alone it is `model`'s claim.
-use Rattle.model.specs.Prelude.{◌≡◌, ◌⊎◌, List, [], ◌∷◌, ℕ, ◌*◌, ◌%◌, ◌<◌, leb, eqb, length}
+use Rattle.std.specs.Prelude.{◌≡◌, ◌⊎◌, List, [], ◌∷◌, ℕ, ◌*◌, ◌%◌, ◌<◌, leb, eqb, length}
 use Rattle.model.specs.Calls.{all, choose, Reply, refused, record_bytes, asked, Lent}
 use Rattle.model.specs.Exactly.{Each, ◌∈◌, ◌⊆◌, Unflagged, WellFormed, refusal}
 use Rattle.model.specs.Demand3.{Pieces, final, Somewhere, Everywhere, Call, Asks, answer_to, left_of, IsGrant, Replaced}

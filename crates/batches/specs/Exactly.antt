@@ -1,6 +1,7 @@
 -- The refusals of a batch, in words: a line's answer is given exactly if its rule is broken and no line's above it. What
 -- each kind of answer leaves.
-use Rattle.model.specs.Prelude.{◌≡◌, ◌⊎◌, ◌↔◌, List, [], ◌∷◌, map, flat_map, ℕ, suc, ◌+◌, ◌-◌, ◌*◌, ◌/◌, ◌%◌, ◌≤◌, ◌<◌, length, replicate}
+use Rattle.std.specs.Prelude.{◌≡◌, ◌⊎◌, ◌↔◌, List, [], ◌∷◌, map, ℕ, suc, ◌+◌, ◌-◌, ◌*◌, ◌/◌, ◌%◌, ◌≤◌, ◌<◌, length, replicate}
+use mathlib.Core.List.{flat_map}
 use Rattle.model.specs.Calls.{Reply, refused, answered, mappings, after, operations, request_of, Lent, lookup}
 use Rattle.model.specs.Exactly.{Each, ◌∈◌, RefusalTable, line, otherwise, Gives, NoFlag, form_lines, request_lines, refusal, lent_lines}
 use Rattle.model.specs.Exactly.{operations_line, RoomRule, Pins}

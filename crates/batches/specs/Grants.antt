@@ -1,6 +1,8 @@
 -- What a granted batch does: what its requests do one by one, and shorter batches in the same order; demand 2 and the
 -- operations replayed, of the whole.
-use Rattle.model.specs.Prelude.{◌≡◌, some, List, [], ◌∷◌, ◌++◌, map, flat_map, ℕ, ◌+◌, ◌-◌, ◌*◌, ◌/◌, ◌≤◌, ◌<◌, eqb, length, take, drop, replicate}
+use Rattle.std.specs.Prelude.{◌≡◌, List, [], ◌∷◌, ◌++◌, map, ℕ, ◌+◌, ◌-◌, ◌*◌, ◌/◌, ◌≤◌, ◌<◌, eqb, length, take, drop, replicate}
+use Rattle.std.proofs.Math.Option.{some}
+use mathlib.Core.List.{flat_map}
 use Rattle.model.specs.Calls.{choose, Reply, refused, answered, stop, Table, mappings, old, rests, words_of_operation, record_bytes, bytes, Lent, bind, see_in, lookup}
 use Rattle.model.specs.Exactly.{Each, TableRules}
 use Rattle.model.specs.Grants.{off_mappings, shows, replay}

@@ -3,7 +3,7 @@
 use mathlib.Core.Path.{◌≡◌, refl, sym, ap, ◌∙◌}
 use mathlib.Core.Bool.{Bool, true, false}
 use mathlib.Core.Option
-use mathlib.Core.Option.{Option, none, some, bind as Option·bind}
+use mathlib.Core.Option.{Option, none, some, bind as bind_option}
 use mathlib.Core.List.{List, [], ◌∷◌, ◌++◌, map, append_assoc}
 use Prim.Native.Nat.{ℕ, zero, suc, ◌≤◌, ◌<◌}
 use native.Mathlib.Omega.{arith}
@@ -84,7 +84,7 @@ rests_under r m z = rw (rests-parts r m)
 -- behind mappings that are dealt with: each that is hit gives way to its rests
 replay-hits : (r : Request) (from : ℕ) (xs ms : List Mapping) → 0 < r.size → Run from ms → Each (λ x. x.address < from) xs
     → replay (map (operation_of r) (hits r ms)) (xs ++ ms) ≡ some (xs ++ left r ms)
-unfolding replay hits below above Option·bind
+unfolding replay hits below above bind_option
 replay-hits r from xs [] z run h = refl
 replay-hits r from xs (m ∷ ms) z run h = go (hits r (m ∷ ms)) (hits_first r m ms) (λ ys k. replay-hits r (end m) ys ms z run.2 k)
   where
@@ -108,7 +108,7 @@ replay-hits r from xs (m ∷ ms) z run h = go (hits r (m ∷ ms)) (hits_first r 
         next ih (m ∷ []) (omega arith, tt)
         ∙ ap (λ (ys : List Mapping). some (xs ++ ys)) (sym (left_missed r m ms run.2 run.1 z n))
     go hs (hit k) ih =
-        ap (λ (o : Option (List Mapping)). Option·bind o (replay os)) (apply_at r m xs ms k lower)
+        ap (λ (o : Option (List Mapping)). bind_option o (replay os)) (apply_at r m xs ms k lower)
         ∙ next ih (rests (operation_of r m)) (rests_under r m run.1)
         ∙ ap (λ (ys : List Mapping). some (xs ++ ys)) (sym (left_hit r m ms run.2 k))
 
@@ -122,21 +122,21 @@ unfolding above
 above_begins b [] = tt
 above_begins b (m ∷ ms) = each_prepend (λ x. b ≤ x.address) (upper_part b m) (above b ms) (λ k. omega arith) (above_begins b ms)
 
-pub replay-append : (os ps : List Operation) (ms : List Mapping) → replay (os ++ ps) ms ≡ Option·bind (replay os ms) (replay ps)
-unfolding replay Option·bind
+pub replay-append : (os ps : List Operation) (ms : List Mapping) → replay (os ++ ps) ms ≡ bind_option (replay os ms) (replay ps)
+unfolding replay bind_option
 replay-append [] ps ms = refl
 replay-append (o ∷ os) ps ms = go (apply o ms) (replay-append os ps)
   where
-    go : (x : Option (List Mapping)) → ((ns : List Mapping) → replay (os ++ ps) ns ≡ Option·bind (replay os ns) (replay ps))
-        → Option·bind x (replay (os ++ ps)) ≡ Option·bind (Option·bind x (replay os)) (replay ps)
+    go : (x : Option (List Mapping)) → ((ns : List Mapping) → replay (os ++ ps) ns ≡ bind_option (replay os ns) (replay ps))
+        → bind_option x (replay (os ++ ps)) ≡ bind_option (bind_option x (replay os)) (replay ps)
     go none ih = refl
     go (some ns) ih = ih ns
 
 pub replays : (r : Request) (ms : List Mapping) → 0 < r.size → Run 0 ms → replay (operations r ms) ms ≡ some (after r ms)
-unfolding operations replay Option·bind
+unfolding operations replay bind_option
 replays r ms z run =
     replay-append (map (operation_of r) (hits r ms)) (map Map (new r)) ms
-    ∙ ap (λ (o : Option (List Mapping)). Option·bind o (replay (map Map (new r)))) (replay-hits r 0 [] ms z run tt)
+    ∙ ap (λ (o : Option (List Mapping)). bind_option o (replay (map Map (new r)))) (replay-hits r 0 [] ms z run tt)
     ∙ maps r.op
   where
     b : List Mapping
@@ -146,6 +146,6 @@ replays r ms z run =
     a = above (stop r) ms
 
     maps : (op : ℕ) → replay (map Map (new_for op (mapping_of r))) (b ++ a) ≡ some (b ++ (new_for op (mapping_of r) ++ a))
-    maps zero = ap (λ (o : Option (List Mapping)). Option·bind o (replay []))
+    maps zero = ap (λ (o : Option (List Mapping)). bind_option o (replay []))
         (insert-at (mapping_of r) b a z (below_ends r.address ms) (above_begins (stop r) ms))
     maps (suc n) = refl

@@ -6,7 +6,8 @@ use mathlib.Core.List.{List, [], ◌++◌, map, flat_map, append-nil}
 use Prim.Native.Nat.{ℕ, ◌+◌, ◌*◌, ◌≤◌}
 use native.Mathlib.Omega.{arith}
 use lib.ListN.{length, length-append, length-drop, drop}
-use Rattle.model.specs.Prelude.{some, Space, Mapping, Request, Map, Grant}
+use Rattle.std.proofs.Math.Option.{some}
+use Rattle.model.specs.Prelude.{Space, Mapping, Request, Map, Grant}
 use Rattle.model.specs.Table.{mappings}
 use Rattle.model.specs.Cut.{new, after, operations, old, rests}
 use Rattle.model.specs.Layout.{words_of_operation}

@@ -1,6 +1,7 @@
 -- A request as it comes, the public calls (the answer and every lent word after it), and how code's answers are read.
-use Rattle.model.specs.Prelude.{Bool, List, [], ◌∷◌, ◌++◌, map, flat_map, ℕ, zero, suc, ◌+◌, ◌*◌, ◌/◌, ◌%◌, leb}
-use Rattle.model.specs.Prelude.{ltb, eqb, length, get_or, drop, Range, Space, Request, Shown, Seen, Grant}
+use Rattle.std.specs.Prelude.{Bool, List, [], ◌∷◌, ◌++◌, map, ℕ, zero, suc, ◌+◌, ◌*◌, ◌/◌, ◌%◌, leb, ltb, eqb, length, get_or, drop}
+use mathlib.Core.List.{flat_map}
+use Rattle.model.specs.Prelude.{Range, Space, Request, Shown, Seen, Grant}
 pub use Rattle.model.specs.Rows.{all, choose, Row, row, Reply, refused, answered, decide, verdict, number_of}
 pub use Rattle.model.specs.Rules.{most_mappings, sparse_flag, apart, end, stop, by_numbers, space_row, form_rows, request_rows}
 pub use Rattle.model.specs.Table.{Table, capacity, mappings, written, bad_place, operations_row, table_rows}

@@ -1,7 +1,8 @@
 -- How a request cuts the old mappings (document 01), what it hands the driver for them, what a byte address shows, and
 -- for how many bytes: of any list of mappings.
-use Rattle.model.specs.Prelude.{Bool, false, List, [], ◌∷◌, ◌++◌, map, ℕ, zero, suc, ◌+◌, ◌-◌, min, max, leb, ltb}
-use Rattle.model.specs.Prelude.{eqb, ℤ, pos, negsuc, sub_ℕ, Range, Space, Mapping, Request, Rests, Lower, Upper}
+use Rattle.std.specs.Prelude.{Bool, false, List, [], ◌∷◌, ◌++◌, map, ℕ, zero, suc, ◌+◌, ◌-◌, min, max, leb, ltb, eqb, ℤ, pos, negsuc}
+use Rattle.std.proofs.Math.IntN.{sub_ℕ}
+use Rattle.model.specs.Prelude.{Range, Space, Mapping, Request, Rests, Lower, Upper}
 use Rattle.model.specs.Prelude.{Both, Operation, Map, Remap, Unmap, Shown, Object, Seen}
 use Rattle.model.specs.Rows.{all, choose}
 use Rattle.model.specs.Rules.{end, stop, apart}

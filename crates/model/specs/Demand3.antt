@@ -1,5 +1,6 @@
 -- Demand 3: a request in pieces, and a series of calls for them (document 01: A request in pieces).
-use Rattle.model.specs.Prelude.{◌≡◌, ◌⊎◌, List, [], ◌∷◌, ◌++◌, map, ℕ, zero, suc, ◌+◌, ◌-◌, ◌≤◌, ◌<◌, length, Space, Mapping, Request, Grant}
+use Rattle.std.specs.Prelude.{◌≡◌, ◌⊎◌, List, [], ◌∷◌, ◌++◌, map, ℕ, zero, suc, ◌+◌, ◌-◌, ◌≤◌, ◌<◌, length}
+use Rattle.model.specs.Prelude.{Space, Mapping, Request, Grant}
 use Rattle.model.specs.Calls.{Reply, answered, stop, Table, written, mapping_of, Asking, asked, Lent, bind, lent_after}
 use Rattle.model.specs.Exactly.{Each, ◌∈◌, ◌⊆◌, Ordered, Multiple, Inside, Unflagged, WellFormed, refusal}
 

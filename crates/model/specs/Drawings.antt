@@ -1,6 +1,7 @@
 -- The drawings marked P in document 01, and document 02's of the keep mark, as one listing: words in and words out of
 -- the public call, computed.
-use Rattle.model.specs.Prelude.{◌≡◌, List, [], ◌∷◌, ◌++◌, ℕ, ◌+◌, ◌-◌, ◌*◌, length, replicate, Grant}
+use Rattle.std.specs.Prelude.{◌≡◌, List, [], ◌∷◌, ◌++◌, ℕ, ◌+◌, ◌-◌, ◌*◌, length, replicate}
+use Rattle.model.specs.Prelude.{Grant}
 use Rattle.model.specs.Calls.{Reply, answered, Asking, numbers, bind, space_of}
 use Rattle.model.specs.Exactly.{Each, refusal}
 

@@ -1,7 +1,8 @@
 -- The papers' rules in words; their numbers are written out, but for the most mappings of a table. A call gives a
 -- line's answer exactly if its rule is broken and no line's above it.
-use Rattle.model.specs.Prelude.{◌≡◌, ◌⊎◌, ◌↔◌, List, [], ◌∷◌, flat_map, List-as-Memᴰ, ℕ, suc, ◌+◌, ◌*◌, ◌/◌, ◌%◌, ◌^◌}
-use Rattle.model.specs.Prelude.{◌≤◌, ◌<◌, pos, ◌-ℤ◌, length, get_or, take, replicate, Range, Space, Mapping}
+use Rattle.std.specs.Prelude.{◌≡◌, ◌⊎◌, ◌↔◌, List, [], ◌∷◌, ℕ, suc, ◌+◌, ◌*◌, ◌/◌, ◌%◌, ◌^◌, ◌≤◌, ◌<◌, pos, ◌-ℤ◌, length, get_or, take, replicate}
+use mathlib.Core.List.{flat_map, Memᴰ as Member}
+use Rattle.model.specs.Prelude.{Range, Space, Mapping}
 use Rattle.model.specs.Prelude.{Request, Seen, Grant}
 use Rattle.model.specs.Calls.{Reply, refused, answered, most_mappings, end, stop, request_of, record_of, Table}
 use Rattle.model.specs.Calls.{mappings, written, bad_place, RangeList, ranges, range_end, list_written, operations}
@@ -14,7 +15,7 @@ Each P [] = Unit {0}
 Each P (x ∷ xs) = P x × Each P xs
 
 abbrev pub ◌∈◌ : {A : Type 0} → A → List A → Type 0
-◌∈◌ x xs = List-as-Memᴰ x xs
+◌∈◌ x xs = Member x xs
 
 abbrev pub ◌⊆◌ : {A : Type 0} → List A → List A → Type 0
 ◌⊆◌ xs ys = Each (λ x. x ∈ ys) xs

@@ -1,7 +1,8 @@
 -- What a grant does: demand 2 in terms of the public calls, and the operations as a driver takes them.
-use Rattle.model.specs.Prelude.{◌≡◌, ◌⊎◌, ◌↔◌, Bool, Option, none, some, Option·map, Option·bind, List, [], ◌∷◌}
-use Rattle.model.specs.Prelude.{◌++◌, flat_map, ℕ, ◌+◌, ◌-◌, ◌*◌, ◌≤◌, ◌<◌, leb, ltb, eqb, length, get_or, drop}
-use Rattle.model.specs.Prelude.{replicate, Space, Mapping, Request, Rests, Lower, Upper, Both, Operation, Map}
+use Rattle.std.specs.Prelude.{◌≡◌, ◌⊎◌, ◌↔◌, Bool, List, [], ◌∷◌, ◌++◌, ℕ, ◌+◌, ◌-◌, ◌*◌, ◌≤◌, ◌<◌, leb, ltb, eqb, length, get_or, drop, replicate}
+use Rattle.std.proofs.Math.Option.{Option, none, some, map as map_option, bind as bind_option}
+use mathlib.Core.List.{flat_map}
+use Rattle.model.specs.Prelude.{Space, Mapping, Request, Rests, Lower, Upper, Both, Operation, Map}
 use Rattle.model.specs.Prelude.{Remap, Unmap, Shown, Object, Grant}
 use Rattle.model.specs.Calls.{all, choose, answered, end, stop, Table, mappings, ranges, bare, operations}
 use Rattle.model.specs.Calls.{rests_of, old, rests, words_of_operation, translate, Asking, asked, Lent, bind}
@@ -52,13 +53,13 @@ rest_tests m (Both l u) = ltb (end l) u.address ∷ (lower_tests m l ++ upper_te
 -- the mapping m gives way to others
 unfoldable pub replace : Mapping → List Mapping → List Mapping → Option (List Mapping)
 replace m ns [] = none
-replace m ns (x ∷ ms) = choose (equal x m) (some (ns ++ ms)) (Option·map (◌∷◌ x) (replace m ns ms))
+replace m ns (x ∷ ms) = choose (equal x m) (some (ns ++ ms)) (map_option (◌∷◌ x) (replace m ns ms))
 
 -- m stands behind those that end at or before its address, and ends at or before the next
 unfoldable pub insert : Mapping → List Mapping → Option (List Mapping)
 insert m [] = some (m ∷ [])
 insert m (x ∷ ms) =
-    choose (leb (end x) m.address) (Option·map (◌∷◌ x) (insert m ms)) (choose (leb (end m) x.address) (some (m ∷ x ∷ ms)) none)
+    choose (leb (end x) m.address) (map_option (◌∷◌ x) (insert m ms)) (choose (leb (end m) x.address) (some (m ∷ x ∷ ms)) none)
 
 -- an operation taken: not if the old mapping is not there, a rest is not that end of it, or the new range is occupied
 abbrev pub apply : Operation → List Mapping → Option (List Mapping)
@@ -68,7 +69,7 @@ apply (Remap keep m rs) ms = choose (all (rest_tests m rs)) (replace m (rests_of
 
 unfoldable pub replay : List Operation → List Mapping → Option (List Mapping)
 replay [] ms = some ms
-replay (o ∷ os) ms = Option·bind (apply o ms) (replay os)
+replay (o ∷ os) ms = bind_option (apply o ms) (replay os)
 
 -- g is the grant, os its operations, lent and written what the operation slice holds before the call and after it
 pub record Replays (r : Request) (t u : Table) (os : List Operation) (lent written : List ℕ) (g : Grant) : Type 0 where

@@ -1,5 +1,7 @@
 -- An operation in words (document 01: an operation is 14 words), and the operation that 14 words say.
-use Rattle.model.specs.Prelude.{Bool, true, false, Option, none, some, List, [], ◌∷◌, ◌++◌, ℕ, zero, suc, eqb, get_or, Mapping, Rests, Lower, Upper, Both, Operation, Map, Remap, Unmap}
+use Rattle.std.specs.Prelude.{Bool, true, false, List, [], ◌∷◌, ◌++◌, ℕ, zero, suc, eqb, get_or}
+use Rattle.std.proofs.Math.Option.{Option, none, some}
+use Rattle.model.specs.Prelude.{Mapping, Rests, Lower, Upper, Both, Operation, Map, Remap, Unmap}
 use Rattle.model.specs.Rows.{all, choose}
 use Rattle.model.specs.Table.{mapping_from, words_of}
 use Rattle.model.specs.declared.Listed.{Listed}

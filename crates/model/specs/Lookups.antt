@@ -1,6 +1,6 @@
 -- What a look-up tells of a byte address, what a driver uses that for, and a walk over a space from one answer's end to
 -- the next.
-use Rattle.model.specs.Prelude.{◌≡◌, ◌⊎◌, List, [], ◌∷◌, ◌++◌, ℕ, zero, suc, ◌+◌, ◌-◌, ◌*◌, ◌≤◌, ◌<◌, length}
+use Rattle.std.specs.Prelude.{◌≡◌, ◌⊎◌, List, [], ◌∷◌, ◌++◌, ℕ, zero, suc, ◌+◌, ◌-◌, ◌*◌, ◌≤◌, ◌<◌, length}
 use Rattle.model.specs.Prelude.{Range, Space, Mapping, Shown, Nothing, Sparse, Object, Seen}
 use Rattle.model.specs.Calls.{Reply, refused, answered, end, mappings, ranges, range_end, Lent, lookup}
 use Rattle.model.specs.Exactly.{◌∈◌}

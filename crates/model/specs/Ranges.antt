@@ -1,7 +1,8 @@
 -- A list of sparse ranges in lent words (document 02, Item 7), the row of the refusal table that looks at it, what an
 -- address shows off all mappings and how far, and a list with one range more or less.
-use Rattle.model.specs.Prelude.{Bool, ◌||◌, false, List, [], ◌∷◌, ◌++◌, flat_map, ℕ, zero, suc, ◌+◌, ◌-◌, ◌*◌, ◌/◌}
-use Rattle.model.specs.Prelude.{◌%◌, min, leb, ltb, eqb, length, get_or, drop, replicate, Range, Space, Shown}
+use Rattle.std.specs.Prelude.{Bool, ◌||◌, false, List, [], ◌∷◌, ◌++◌, ℕ, zero, suc, ◌+◌, ◌-◌, ◌*◌, ◌/◌, ◌%◌, min, leb, ltb, eqb, length, get_or, drop, replicate}
+use mathlib.Core.List.{flat_map}
+use Rattle.model.specs.Prelude.{Range, Space, Shown}
 use Rattle.model.specs.Prelude.{Nothing, Sparse}
 use Rattle.model.specs.Rows.{all, choose, Row, row}
 use Rattle.model.specs.Rules.{aligned, apart}

@@ -1,5 +1,5 @@
 -- The refusal table as data (document 01): a call lists rows, and the first from the top that applies is the answer.
-use Rattle.model.specs.Prelude.{Bool, true, false, ◌&&◌, List, [], ◌∷◌, map, ℕ}
+use Rattle.std.specs.Prelude.{Bool, true, false, ◌&&◌, List, [], ◌∷◌, map, ℕ}
 
 -- all of some tests, as code has it that writes them with & between: (a & b) & c
 abbrev pub all_from : Bool → List Bool → Bool

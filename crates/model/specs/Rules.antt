@@ -1,6 +1,7 @@
 -- The rules of a space, a mapping and a request as tests, and lines of document 01's refusal table as named rows. Sums
 -- are exact, in ℕ.
-use Rattle.model.specs.Prelude.{Bool, ◌||◌, List, [], ◌∷◌, ◌++◌, ℕ, zero, suc, ◌+◌, ◌-◌, ◌%◌, ◌^◌, min, max, leb, ltb, eqb, Space, Mapping, Request}
+use Rattle.std.specs.Prelude.{Bool, ◌||◌, List, [], ◌∷◌, ◌++◌, ℕ, zero, suc, ◌+◌, ◌-◌, ◌%◌, ◌^◌, min, max, leb, ltb, eqb}
+use Rattle.model.specs.Prelude.{Space, Mapping, Request}
 use Rattle.model.specs.Rows.{Row, row}
 
 -- document 01: Sizes

@@ -1,5 +1,6 @@
 -- What a request with the sparse flag does (document 02, Item 7), and that no other changes the list.
-use Rattle.model.specs.Prelude.{◌≡◌, ◌⊎◌, ◌↔◌, List, ℕ, ◌+◌, length, Range, Space, Mapping, Request, Nothing, Sparse, Grant}
+use Rattle.std.specs.Prelude.{◌≡◌, ◌⊎◌, ◌↔◌, List, ℕ, ◌+◌, length}
+use Rattle.model.specs.Prelude.{Range, Space, Mapping, Request, Nothing, Sparse, Grant}
 use Rattle.model.specs.Calls.{answered, ranges, mappings, Asking, numbers, asked, Lent, range_of, bind, lent_after, see_in, lookup}
 use Rattle.model.specs.Exactly.{◌∈◌, ListRules, Unflagged}
 use Rattle.model.specs.Grants.{shows}

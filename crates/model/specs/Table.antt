@@ -1,6 +1,7 @@
 -- A table of mappings in lent words (document 01: Table), and the rows of the refusal table that look at it.
-use Rattle.model.specs.Prelude.{Bool, List, [], ◌∷◌, ◌++◌, map, flat_map, ℕ, zero, suc, ◌+◌, ◌-◌, ◌*◌, ◌/◌, ◌%◌}
-use Rattle.model.specs.Prelude.{leb, ltb, eqb, length, get_or, drop, replicate, Space, Mapping}
+use Rattle.std.specs.Prelude.{Bool, List, [], ◌∷◌, ◌++◌, map, ℕ, zero, suc, ◌+◌, ◌-◌, ◌*◌, ◌/◌, ◌%◌, leb, ltb, eqb, length, get_or, drop, replicate}
+use mathlib.Core.List.{flat_map}
+use Rattle.model.specs.Prelude.{Space, Mapping}
 use Rattle.model.specs.Rows.{all, choose, Row, row}
 use Rattle.model.specs.Rules.{most_mappings, end, mapping_tests, space_row}
 

@@ -1,6 +1,6 @@
 -- What is claimed of page entries (document 02, Item 12): first for any sizes of which each divides the next larger one,
 -- then of the call, with the three.
-use Rattle.model.specs.Prelude.{◌≡◌, ◌⊎◌, ◌↔◌, List, [], ◌∷◌, ◌++◌, map, ℕ, zero, suc, ◌+◌, ◌-◌, ◌*◌, ◌/◌, ◌%◌, ◌^◌, ◌≤◌, ◌<◌, length, get_or, drop}
+use Rattle.std.specs.Prelude.{◌≡◌, ◌⊎◌, ◌↔◌, List, [], ◌∷◌, ◌++◌, map, ℕ, zero, suc, ◌+◌, ◌-◌, ◌*◌, ◌/◌, ◌%◌, ◌^◌, ◌≤◌, ◌<◌, length, get_or, drop}
 use Rattle.model.specs.Calls.{Reply, refused, answered, all, choose, end, space_of}
 use Rattle.model.specs.Cut.{inside_tests, translate}
 use Rattle.model.specs.Exactly.{Each, ◌∈◌, Ascends, MappingRules, RefusalTable, line, otherwise, Gives, refusal, Pins}

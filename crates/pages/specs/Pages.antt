@@ -1,5 +1,6 @@
 -- Page entries (document 02, Item 12): a mapping in pages of several sizes, as few as can be. One recursion for any sizes.
-use Rattle.model.specs.Prelude.{Bool, List, [], ◌∷◌, ◌++◌, flat_map, ℕ, zero, suc, ◌+◌, ◌-◌, ◌*◌, ◌/◌, ◌%◌, min, max, leb, eqb, length, drop}
+use Rattle.std.specs.Prelude.{Bool, List, [], ◌∷◌, ◌++◌, ℕ, zero, suc, ◌+◌, ◌-◌, ◌*◌, ◌/◌, ◌%◌, min, max, leb, eqb, length, drop}
+use mathlib.Core.List.{flat_map}
 use Rattle.model.specs.Rows.{choose, Row, row, Reply, refused, answered, decide}
 use Rattle.model.specs.Rules.{limit, end, mapping_tests}
 use Rattle.model.specs.Calls.{space_of, refusal_reply}

@@ -1,7 +1,7 @@
 -- What is claimed of the script program: its records, the order in which it takes them, what each does, the refusals
 -- that it can give, and what some scripts print.
 use Prim.Native.String.{String}
-use Rattle.model.specs.Prelude.{◌≡◌, ◌⊎◌, List, [], ◌∷◌, ◌++◌, ℕ, ◌+◌, ◌*◌, ◌/◌, ◌^◌, ◌<◌, length, take, drop, replicate}
+use Rattle.std.specs.Prelude.{◌≡◌, ◌⊎◌, List, [], ◌∷◌, ◌++◌, ℕ, ◌+◌, ◌*◌, ◌/◌, ◌^◌, ◌<◌, length, take, drop, replicate}
 use Rattle.model.specs.Calls.{refused, answered, mappings, operations, by_numbers, bytes_of, request_of, record_of, space_of, bytes, Outcome, bind, lookup}
 use Rattle.model.specs.Exactly.{Each, ◌∈◌, SpaceRules, Pins}
 use Rattle.program.specs.Prelude.{Space, Request, Seen, Grant}

@@ -1,6 +1,7 @@
 -- What is claimed of the lines: the digits of a number, and the text of each kind of line, for every number and
 -- operation.
-use Rattle.model.specs.Prelude.{◌≡◌, Bool, List, [], ◌∷◌, ◌++◌, flat_map, ℕ, ◌+◌, ◌-◌, ◌*◌, ◌≤◌, ◌<◌, get_or}
+use Rattle.std.specs.Prelude.{◌≡◌, Bool, List, [], ◌∷◌, ◌++◌, ℕ, ◌+◌, ◌-◌, ◌*◌, ◌≤◌, ◌<◌, get_or}
+use mathlib.Core.List.{flat_map}
 use Rattle.model.specs.Rows.{choose}
 use Rattle.model.specs.Exactly.{Each}
 use Rattle.program.specs.Prelude.{Mapping, Lower, Upper, Both, Operation, Map, Remap, Unmap, Nothing, Sparse, Object, Grant}

@@ -1,6 +1,7 @@
 -- The script program (document 01): what stands at a place of a script, what one record does, and all that a script
 -- prints.
-use Rattle.model.specs.Prelude.{Bool, ◌&&◌, List, [], ◌∷◌, ◌++◌, flat_map, ℕ, zero, suc, ◌+◌, ◌*◌, leb, eqb, length, get_or, take, drop, replicate}
+use Rattle.std.specs.Prelude.{Bool, ◌&&◌, List, [], ◌∷◌, ◌++◌, ℕ, zero, suc, ◌+◌, ◌*◌, leb, eqb, length, get_or, take, drop, replicate}
+use mathlib.Core.List.{flat_map}
 use Rattle.program.specs.Prelude.{Space, Request, Operation, Seen, Grant}
 use Rattle.model.specs.Rows.{choose, Reply, refused, answered, decide}
 use Rattle.model.specs.Rules.{space_row}

@@ -1,7 +1,7 @@
 -- The lines that the script program writes (document 01: The script program), byte by byte.
 use Prim.Native.Char.{code}
 use Prim.Native.String.{String, [] as noText, ◌∷◌ as ◌then◌}
-use Rattle.model.specs.Prelude.{Bool, List, [], ◌∷◌, ◌++◌, ℕ, zero, suc, ◌+◌, ◌/◌, ◌%◌, ltb}
+use Rattle.std.specs.Prelude.{Bool, List, [], ◌∷◌, ◌++◌, ℕ, zero, suc, ◌+◌, ◌/◌, ◌%◌, ltb}
 use Rattle.program.specs.Prelude.{Mapping, Rests, Lower, Upper, Both, Operation, Map, Remap, Unmap, Shown, Nothing, Sparse, Object, Seen}
 use Rattle.model.specs.Rows.{choose}
 use Rattle.model.specs.Table.{words_of}
