@@ -83,7 +83,8 @@ pub fn change(
     let hi = table::first_starting_behind(t, lo, count, cut::last_byte(r));
     let new = replacement(r, t, lo, hi);
     let after = lo + table::replacement_length(new) + (count - hi);
-    if t.len() / 4 < after {
+    let is_full = t.len() / 4 < after;
+    if is_full {
         return ChangeAnswer::NoRoom;
     }
     let number = cut::operations_number(r, lo, hi);

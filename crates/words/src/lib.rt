@@ -180,7 +180,8 @@ fn move_up(t: &mut [u64], from: usize, to: usize, n: usize)
     if to - from == 4 {
         return up_by_four(&mut t[from..], n);
     }
-    if to - from == 8 {
+    let by_eight = to - from == 8;
+    if by_eight {
         return up_by_eight(&mut t[from..], n);
     }
     up_few(t, from, to, n)

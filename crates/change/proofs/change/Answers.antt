@@ -35,10 +35,10 @@ overflow_add-after-2 c =
     let p = placed c.requires.0 c.requires.1 c.last_byte.ensures c.first_starting_behind-hi.ensures in
     omega (arith, low_high p, c.requires.0.table.held, c.replacement_length.ensures.1, c.ranges)
 
-pub returns-then-t-after : goal.returns-then-t-after
-returns-then-t-after c =
+pub returns-then-is_full : goal.returns-then-is_full
+returns-then-is_full c =
     let p = placed c.requires.0 c.requires.1 c.last_byte.ensures c.first_starting_behind-hi.ensures in
-    full p c.args.operations.now c.replacement-new.ensures c.replacement_length.ensures.0 (omega (arith, c.if-t-after.true))
+    full p c.args.operations.now c.replacement-new.ensures c.replacement_length.ensures.0 (omega (arith, c.if-is_full.true))
 
 pub operations_number-number-requires : goal.operations_number-number-requires
 operations_number-number-requires c =
@@ -53,7 +53,7 @@ overflow_mul-number c =
 pub returns-then-operations-number : goal.returns-then-operations-number
 returns-then-operations-number c =
     let p = placed c.requires.0 c.requires.1 c.last_byte.ensures c.first_starting_behind-hi.ensures in
-    short p c.args.operations.now c.replacement-new.ensures c.replacement_length.ensures.0 (omega (arith, c.if-t-after.false))
+    short p c.args.operations.now c.replacement-new.ensures c.replacement_length.ensures.0 (omega (arith, c.if-is_full.false))
     c.operations_number-number.ensures (omega (arith, c.if-operations-number.true))
 
 pub write_operations-requires : goal.write_operations-requires
@@ -80,11 +80,11 @@ splice-requires c =
       high = omega (arith, low_high p);
       held = c.requires.0.table.held;
       behind = c.requires.0.behind;
-      room = omega (arith, c.if-t-after.false, c.replacement_length.ensures.0);
+      room = omega (arith, c.if-is_full.false, c.replacement_length.ensures.0);
     }
 
 pub returns : goal.returns
 returns c =
     let p = placed c.requires.0 c.requires.1 c.last_byte.ensures c.first_starting_behind-hi.ensures in
-    carried_out p c.args.operations.now c.replacement-new.ensures c.replacement_length.ensures.0 (omega (arith, c.if-t-after.false))
+    carried_out p c.args.operations.now c.replacement-new.ensures c.replacement_length.ensures.0 (omega (arith, c.if-is_full.false))
     c.operations_number-number.ensures (omega (arith, c.if-operations-number.false)) c.write_operations.ensures c.splice.ensures
