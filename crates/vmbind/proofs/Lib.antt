@@ -1,3 +1,4 @@
+pub mod Answers
 pub mod Refills
 pub mod Rounds
 pub mod Runs
