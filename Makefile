@@ -40,8 +40,9 @@ odd = ' " \ ; | & $$ \#
 check_letters = $(foreach letter,$(odd),$(if $(findstring $(letter),$(headers)$(lib)$(doc)$(PREFIX)),\
     $(error a path to install to has a $(letter) in it)))
 
-# Folders count too: a file that was removed leaves no other trace.
-newer = $(shell find crates crates.txt -newer $(archive) | head -n 1)
+# Folders count too: a file that was removed leaves no other trace. rt writes to crates/NAME/out, which are no sources.
+sources = crates.txt $(filter-out %/out,$(wildcard crates/*/*))
+newer = $(shell find $(sources) -newer $(archive) | head -n 1)
 check_archive = $(if $(wildcard $(archive)),,$(error $(archive) is missing: run 'make' first))$(if $(newer),\
     $(error $(archive) is older than $(newer): run 'make' first))
 

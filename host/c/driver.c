@@ -6,7 +6,7 @@
  * host/rust/examples/driver.rs is the same in Rust. Both print what host/driver.out has, and end
  * with 1 if a page entry is not what look-ups say. From the repository's root:
  *
- *     rt staticlib waylluqen
+ *     make
  *     gcc -std=c99 -O2 -Ihost/include host/c/driver.c target/staticlib/libwaylluqen.a -o driver
  *     ./driver
  */

@@ -1,5 +1,5 @@
-//! Says where the static library is: in `WAYLLUQEN_LIB_DIR` if that is set, else where
-//! `rt staticlib waylluqen`, run at the repository's root, writes it.
+//! Says where the static library is: in `WAYLLUQEN_LIB_DIR` if that is set, else where `make`, run
+//! at the repository's root, writes it.
 //!
 //! Only linking needs it. So where it is missing, or is not the one that this crate goes with, that
 //! is told here as a warning, and it is left to rustc to refuse a build that links.
@@ -12,7 +12,7 @@ use std::path::{Path, PathBuf};
 use std::time::SystemTime;
 
 const LIB_DIR: &str = "WAYLLUQEN_LIB_DIR";
-const ADVICE: &str = "run `rt staticlib waylluqen` at the repository's root, or set";
+const ADVICE: &str = "run `make` at the repository's root, or set";
 
 /// The symbol that src/ffi.rs needs.
 const INTERFACE: &str = "waylluqen_interface_6";
@@ -82,19 +82,29 @@ fn unfit(archive: &[u8]) -> Option<String> {
     (!same).then(|| format!("does not export {INTERFACE}: its calls are of another interface"))
 }
 
+/// What a folder has in it.
+fn entries(folder: &Path) -> impl Iterator<Item = PathBuf> {
+    let found = fs::read_dir(folder).into_iter().flatten();
+    found.filter_map(|entry| Some(entry.ok()?.path()))
+}
+
+/// What the crates are made of: all that their folders have but what `rt` writes to each.
+fn sources(crates: &Path) -> Vec<PathBuf> {
+    let parts = entries(crates).flat_map(|one| entries(&one));
+    parts.filter(|part| !part.ends_with("out")).collect()
+}
+
 /// When the newest file below `path` was written.
 fn newest(path: &Path) -> Option<SystemTime> {
     if path.is_dir() {
-        let entries = fs::read_dir(path).ok()?;
-        return entries
-            .filter_map(|entry| newest(&entry.ok()?.path()))
-            .max();
+        return entries(path).filter_map(|entry| newest(&entry)).max();
     }
     fs::metadata(path).ok()?.modified().ok()
 }
 
-fn is_older(archive: &Path, sources: &Path) -> bool {
-    matches!((newest(archive), newest(sources)), (Some(built), Some(written)) if built < written)
+fn is_older(archive: &Path, sources: &[PathBuf]) -> bool {
+    let written = sources.iter().filter_map(|part| newest(part)).max();
+    matches!((newest(archive), written), (Some(built), Some(written)) if built < written)
 }
 
 fn tell(archive: &Path, what: &str) {
@@ -105,7 +115,7 @@ fn tell(archive: &Path, what: &str) {
 }
 
 /// Says where the archive is, if it can be linked, and tells what is wrong with it.
-fn offer(dir: &Path, archive: &Path, sources: &Path) {
+fn offer(dir: &Path, archive: &Path, sources: &[PathBuf]) {
     let bytes = match fs::read(archive) {
         Ok(bytes) => bytes,
         Err(_) => return tell(archive, "is missing, which only linking needs"),
@@ -123,12 +133,12 @@ fn main() {
     let chosen = env::var_os(LIB_DIR).filter(|dir| dir != OsStr::new(""));
     let dir = chosen.map_or_else(|| root().join("target/staticlib"), PathBuf::from);
     let archive = dir.join("libwaylluqen.a");
-    let sources = root().join("crates");
+    let sources = sources(&root().join("crates"));
     println!("cargo:rerun-if-env-changed={LIB_DIR}");
     println!("cargo:rerun-if-changed=build.rs");
     println!("cargo:rerun-if-changed={}", archive.display());
-    if sources.is_dir() {
-        println!("cargo:rerun-if-changed={}", sources.display());
+    for part in &sources {
+        println!("cargo:rerun-if-changed={}", part.display());
     }
     println!("cargo:rustc-link-lib=static=waylluqen");
     offer(&dir, &archive, &sources);

@@ -5,8 +5,7 @@
 //! the same in C. Both print what host/driver.out has, and end with 1 if a page entry is not what
 //! look-ups say.
 //!
-//! After `rt staticlib waylluqen` at the repository's root, `cargo run --example driver` in
-//! host/rust.
+//! After `make` at the repository's root, `cargo run --example driver` in host/rust.
 
 use std::error::Error;
 use std::fmt;

@@ -11,7 +11,7 @@ use std::sync::mpsc::channel;
 use std::thread;
 use std::time::Duration;
 
-/// Where the program is, if not where `rt check vmbind`, run at the repository's root, writes it.
+/// Where the program is, if not where `host/prove check vmbind` writes it.
 const PROGRAM: &str = "VMBIND";
 
 /// Longer than any script takes, also where there is much else to do.
@@ -25,7 +25,7 @@ pub fn path() -> PathBuf {
     let path = env::var_os(PROGRAM).map_or_else(default, PathBuf::from);
     assert!(
         path.is_file(),
-        "{} is missing: run `rt check vmbind` at the repository's root, or set {PROGRAM}",
+        "{} is missing: run `host/prove check vmbind` at the repository's root, or set {PROGRAM}",
         path.display()
     );
     path
