@@ -172,9 +172,6 @@ def main():
             continue
         text = open(p, encoding="utf-8").read()
         rewrite(p, text, turn_ticks(text, turned))
-    with open("/tmp/respelled.tsv", "w", encoding="utf-8") as f:
-        for old in sorted(turned):
-            f.write(f"{old}\t{turned[old]}\n")
     print(f"{len(turned)} names respelled, {len(names)} declared")
 
 
