@@ -23,56 +23,78 @@ RENAMED = {"Option·map": "map_option", "Option·bind": "bind_option", "List-as-
 PRELUDE = "Rattle.std.specs.Prelude"
 
 
+ALIASES = {"map_option": "map as map_option", "bind_option": "bind as bind_option", "Member": "Memᴰ as Member"}
+FROM_OWN = re.compile(r"^use (Rattle\.(?:model|batches|pages|program)\.specs\.Prelude)\.\{([^}]*)\}\n", re.M)
+PASSED_ON = re.compile(r"pub use (?:Rattle\.std\.|mathlib\.)\S*\.\{(.*)\}")
+
+
 def library_words():
-    words = set()
+    """What the model's Prelude passes on of the library."""
+    words = set(ALIASES)
     for line in open("crates/model/specs/Prelude.antt", encoding="utf-8"):
-        m = re.match(r"pub use (Rattle\.std\.|mathlib\.)\S*\.\{(.*)\}", line)
+        m = PASSED_ON.match(line)
         if m:
-            words |= {w.strip() for w in m[2].split(",")}
+            words |= {w.strip() for w in m[1].split(",")}
     return words
+
+
+def renamed(text):
+    for a, b in RENAMED.items():
+        text = text.replace(" as " + a, " as " + b).replace(a, b)
+    return text
+
+
+def own_prelude(text):
+    """The model's Prelude with its own types alone."""
+    lines = [l for l in text.split("\n") if not PASSED_ON.match(l) and not l.startswith("-- ")]
+    return "-- The types of src/lib.rt that definitions use.\n" + "\n".join(lines)
+
+
+def without(text, words):
+    """The text without imports of the library's words from a Prelude of ours, and these words."""
+    taken = []
+
+    def one(m):
+        its = [w.strip() for w in m[2].replace("\n", " ").split(",") if w.strip()]
+        rest = [w for w in its if w not in words]
+        taken.extend(w for w in its if w in words)
+        return m[0] if len(rest) == len(its) else f"use {m[1]}.{{{', '.join(rest)}}}\n" if rest else ""
+
+    return FROM_OWN.sub(one, text), taken
+
+
+def with_library(text, taken, at):
+    """The text with the words imported from the library: in a line for their module that is there, or in one at the place."""
+    by = {}
+    for w in taken:
+        full = ALIASES.get(w, w)
+        by.setdefault(OTHERS.get(full, PRELUDE), []).append(full)
+    new = ""
+    for path in sorted(by, key=lambda q: (q != PRELUDE, q)):
+        have = re.search(r"^use " + re.escape(path) + r"\.\{([^}]*)\}\n", text, re.M)
+        if have:
+            its = [w.strip() for w in have[1].split(",")]
+            its += [w for w in by[path] if w not in its]
+            text = text.replace(have[0], f"use {path}.{{{', '.join(its)}}}\n", 1)
+        else:
+            new += f"use {path}.{{{', '.join(by[path])}}}\n"
+    return text[:at] + new + text[at:]
 
 
 def main():
     words = library_words()
     for p in sorted(glob.glob("crates/*/specs/**/*.antt", recursive=True) + glob.glob("crates/*/proofs/**/*.antt", recursive=True)):
-        text = open(p, encoding="utf-8").read()
-        old = text
-        for a, b in RENAMED.items():
-            text = text.replace(a + " as ", "\0").replace(" as " + a, " as " + b).replace(a, b).replace("\0", a + " as ")
+        old = open(p, encoding="utf-8").read()
+        text = renamed(old)
         if p == "crates/model/specs/Prelude.antt":
-            lines = [l for l in text.split("\n") if not re.match(r"pub use (Rattle\.std\.|mathlib\.)", l) and not l.startswith("-- ")]
-            text = "-- The types of src/lib.rt that definitions use.\n" + "\n".join(lines)
+            text = own_prelude(text)
         else:
-            taken = []
-            out = []
-            item = re.compile(r"^use (Rattle\.(?:model|batches|pages|program)\.specs\.Prelude)\.\{([^}]*)\}\n", re.M)
-            at = None
-            def one(m):
-                its = [w.strip() for w in m[2].replace("\n", " ").split(",") if w.strip()]
-                lib = [w for w in its if w in words or w in ("map_option", "bind_option", "Member")]
-                rest = [w for w in its if w not in lib]
-                taken.extend(lib)
-                return (f"use {m[1]}.{{{', '.join(rest)}}}\n" if rest else "") if lib else m[0]
-            first = item.search(text)
-            turned = item.sub(one, text)
-            if taken:
-                by = {}
-                for w in taken:
-                    full = {"map_option": "map as map_option", "bind_option": "bind as bind_option", "Member": "Memᴰ as Member"}.get(w, w)
-                    by.setdefault(OTHERS.get(full, PRELUDE), []).append(full)
-                new = ""
-                for path in sorted(by, key=lambda q: (q != PRELUDE, q)):
-                    have = re.search(r"^use " + re.escape(path) + r"\.\{([^}]*)\}\n", turned, re.M)
-                    if have:
-                        its = [w.strip() for w in have[1].split(",")]
-                        its += [w for w in by[path] if w not in its]
-                        turned = turned.replace(have[0], f"use {path}.{{{', '.join(its)}}}\n", 1)
-                    else:
-                        new += f"use {path}.{{{', '.join(by[path])}}}\n"
-                turned = turned[: first.start()] + new + turned[first.start() :]
-            text = turned
+            first = FROM_OWN.search(text)
+            turned, taken = without(text, words)
+            text = with_library(turned, taken, first.start()) if taken else text
         if text != old:
-            open(p, "w", encoding="utf-8").write(text)
+            with open(p, "w", encoding="utf-8") as f:
+                f.write(text)
 
 
 if __name__ == "__main__":

@@ -12,7 +12,6 @@ Goes over specs/, proofs/, the clauses of src/, the must-fail edits, and names b
 import glob
 import os
 import re
-import sys
 
 NAME = r"[^\s(){}.;,@\"«»`]+"
 DECLARED = re.compile(r"^(\s*)(?:pub |abbrev |unfoldable )*(record |data )?(" + NAME + r")((?: \{[^{}\n]*\})*) :(?:\s|$)")
@@ -101,7 +100,7 @@ def turn_antt(text, turned, fields, local, proof):
     """Names in antt's text: whole words, in comments only between backticks."""
     out = []
     for line in text.split("\n"):
-        code, sep, comment = line, "", ""
+        code, comment = line, ""
         at = re.search(r"(?:^|\s)--(?:\s|$)", line)
         if at:
             code, comment = line[: at.start()], line[at.start() :]
@@ -140,24 +139,27 @@ def rewrite(path, text, new):
             f.write(new)
 
 
-def main():
-    paths = files()
-    names, fields, defined = declarations(paths)
-    turned, together = plan(names, fields, defined)
-    for name, new in together:
-        print(f"falls together: {name} with {new}: {turned.get(name, name)}")
+def turn_texts(paths, turned, fields):
     for p in paths:
         text = open(p, encoding="utf-8").read()
         local = set()
         if generated(p):
             local = {m[3] for m in map(DECLARED.match, text.split("\n")) if m and not m[1]}
         rewrite(p, text, turn_antt(text, turned, fields, local, generated(p)))
+
+
+def turn_sources(turned):
+    """The sources; says where a new name is also a parameter's, a field's or an item's, which would hide it."""
     for p in glob.glob("crates/*/src/**/*.rt", recursive=True):
         text = open(p, encoding="utf-8").read()
         rewrite(p, text, turn_rust(text, turned))
         for new in set(turned.values()):
-            if re.search(r"\b(?:const|static|type|mod) " + re.escape(new) + r"\b|[(,\s]" + re.escape(new) + r": [&\[\w]", text):
+            item = r"\b(?:const|static|type|mod) " + re.escape(new) + r"\b|[(,\s]" + re.escape(new) + r": [&\[\w]"
+            if re.search(item, text):
                 print(f"look: {p} has a parameter, field or item {new}")
+
+
+def turn_edits(turned, fields):
     for p in glob.glob("crates/*/must-fail/*.edit"):
         text = open(p, encoding="utf-8").read()
         lines = []
@@ -167,13 +169,27 @@ def main():
             else:
                 lines.append(turn_ticks(line, turned) if not line.startswith("file:") else line)
         rewrite(p, text, "\n".join(lines))
+
+
+def turn_documents(turned):
     for p in glob.glob("*.md") + glob.glob("docs/**/*.md", recursive=True) + glob.glob("crates/**/*.md", recursive=True):
-        if os.path.basename(p) == "PORT.md":
-            continue
-        text = open(p, encoding="utf-8").read()
-        rewrite(p, text, turn_ticks(text, turned))
+        if os.path.basename(p) != "PORT.md":
+            text = open(p, encoding="utf-8").read()
+            rewrite(p, text, turn_ticks(text, turned))
+
+
+def main():
+    paths = files()
+    names, fields, defined = declarations(paths)
+    turned, together = plan(names, fields, defined)
+    for name, new in together:
+        print(f"falls together: {name} with {new}: {turned.get(name, name)}")
+    turn_texts(paths, turned, fields)
+    turn_sources(turned)
+    turn_edits(turned, fields)
+    turn_documents(turned)
     print(f"{len(turned)} names respelled, {len(names)} declared")
 
 
 if __name__ == "__main__":
-    sys.exit(main())
+    main()
