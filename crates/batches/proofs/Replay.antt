@@ -2,7 +2,7 @@
 -- Assumes nothing.
 use mathlib.Core.Path.{◌≡◌, refl, sym, ap, subst, ◌∙◌}
 use mathlib.Core.Bool.{Bool}
-use mathlib.Core.Option.{Option, some, bind as bind_option}
+use Rattle.std.specs.Prelude.{Option, Some, option_and_then}
 use mathlib.Core.List.{List, [], ◌∷◌, ◌++◌, flat_map}
 use Prim.Native.Nat.{ℕ, zero, suc, ◌+◌, ◌*◌, ◌<◌}
 use native.Mathlib.Omega.{arith}
@@ -31,12 +31,12 @@ use Rattle.batches.specs.Grants.{maps_among, ReplaysAll}
 use Rattle.batches.proofs.Batch.{Granting, may, fits, room}
 use Rattle.batches.proofs.Relent.{relent_mappings}
 
-replays_all : (rs : List Request) (ms : List Mapping) → Each (λ r. 0 < r.size) rs → Run 0 ms → replay (operations_all rs ms) ms ≡ some (after_all rs ms)
-unfolding operations_all after_all replay bind_option
+replays_all : (rs : List Request) (ms : List Mapping) → Each (λ r. 0 < r.size) rs → Run 0 ms → replay (operations_all rs ms) ms ≡ Some (after_all rs ms)
+unfolding operations_all after_all replay
 replays_all [] ms z run = refl
 replays_all (r ∷ rs) ms z run =
     replay-append (operations r ms) (operations_all rs (after r ms)) ms
-    ∙ ap (λ (o : Option (List Mapping)). bind_option o (replay (operations_all rs (after r ms)))) (replays r ms z.0 run)
+    ∙ ap (λ (o : Option (List Mapping)). option_and_then (replay (operations_all rs (after r ms))) o) (replays r ms z.0 run)
     ∙ replays_all rs (after r ms) z.1 (run-after r ms run z.0)
 
 one_map : (r : Request) → length (new r) ≡ choose (eqb r.op 0) 1 0
@@ -90,7 +90,7 @@ replay-all s l ws os bs g k =
     it = record {
       replayed =
           replays_all rs ms sizes run
-          ∙ ap some (sym (relent_mappings l (after_all rs ms) (room s l ws os bs g k)));
+          ∙ ap Some (sym (relent_mappings l (after_all rs ms) (room s l ws os bs g k)));
       number = refl;
       count = omega (arith, counts_all rs ms sizes run, length-mappings l.table.count l.table.words);
       words = (

@@ -1,7 +1,7 @@
 -- What a granted batch does: what its requests do one by one, and shorter batches in the same order; demand 2 and the
 -- operations replayed, of the whole.
 use Rattle.std.specs.Prelude.{◌≡◌, List, [], ◌∷◌, ◌++◌, map, ℕ, ◌+◌, ◌-◌, ◌*◌, ◌/◌, ◌≤◌, ◌<◌, eqb, length, take, drop, replicate}
-use Rattle.std.proofs.Math.Option.{some}
+use Rattle.std.specs.Prelude.{Some}
 use mathlib.Core.List.{flat_map}
 use Rattle.model.specs.Calls.{choose, Reply, refused, answered, stop, Table, mappings, old, rests, words_of_operation, record_bytes, bytes, Lent, bind, see_in, lookup}
 use Rattle.model.specs.Exactly.{Each, TableRules}
@@ -92,7 +92,7 @@ maps_among (r ∷ rs) = choose (eqb r.op 0) 1 0 + maps_among rs
 -- g is the grant, os the operations of all requests rs, lent and written what the operation slice holds before the call
 -- and after it
 pub record ReplaysAll (rs : List Request) (t u : Table) (os : List Operation) (lent written : List ℕ) (g : Grant) : Type 0 where
-  pub replayed : replay os (mappings t) ≡ some (mappings u)
+  pub replayed : replay os (mappings t) ≡ Some (mappings u)
   pub number : g.operations ≡ length os
   -- count afterwards = count - hit + lower rests + upper rests + (1 for each map)
   pub count : g.count + length (flat_map old os) ≡ t.count + length (flat_map rests os) + maps_among rs

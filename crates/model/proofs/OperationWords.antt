@@ -3,7 +3,7 @@
 use mathlib.Core.Path.{◌≡◌, refl, sym, ap, ap₂, subst, ◌∙◌}
 use mathlib.Core.Logic.{◌↔◌}
 use mathlib.Core.Bool.{Bool, true, false}
-use mathlib.Core.Option.{Option, none, some, some-injective}
+use Rattle.std.specs.Prelude.{None, Option, Some}
 use mathlib.Core.List.Memᴰ
 use mathlib.Core.List.{List, [], ◌∷◌, map}
 use Prim.Native.Nat.{ℕ, zero, suc, ◌<◌}
@@ -16,14 +16,11 @@ use Rattle.model.specs.Rows.{choose}
 use Rattle.model.specs.Rules.{stop}
 use Rattle.model.specs.Table.{mapping_from}
 use Rattle.model.specs.Cut.{lower_part, upper_part, new, hits, operation_for, operation_of, operations, rests}
-use Rattle.model.specs.Layout.{is_absent, rests_by, operation_by, operation_in, words_of_operation, listed_operation}
-use Rattle.model.specs.declared.Listed.{Listed}
-use Rattle.model.specs.declared.Listed.TheVariants.{Known, Unknown}
+use Rattle.model.specs.Layout.{is_absent, rests_by, operation_by, operation_in, words_of_operation}
 use Rattle.model.specs.Exactly.{Each}
 use Rattle.model.specs.Grants.{rest_laid, OperationLayout, SameWords, Spells, OperationReading}
 use Rattle.model.proofs.Tests.{tests, all_facts, all_true, all_false, not_facts}
 use Rattle.model.proofs.Actions.{each_map, each_append}
-use Rattle.model.proofs.Pinned.{back_pins}
 
 pub operation_layout : OperationLayout
 operation_layout (Map m) = refl
@@ -127,20 +124,20 @@ module _ (ws : List ℕ) where
     there = (present L l, (present U u, tt));
   }
 
-  never : {A : Type 0} {o : Operation} → none ≡ some o → A
+  never : {A : Type 0} {o : Operation} → None ≡ Some o → A
   never e = absurd (subst Empty e tt)
     where
       Empty : Option Operation → Type 0
-      Empty none = Unit {0}
-      Empty (some o) = ⊥
+      Empty None = Unit {0}
+      Empty (Some o) = ⊥
 
-  to : {o p : Operation} → some p ≡ some o → Spells ws p → Spells ws o
-  to {o} {p} e h = subst (Spells ws) (some-injective p o e) h
+  to : {o p : Operation} → Some p ≡ Some o → Spells ws p → Spells ws o
+  to {o} {p} e h = let same : p ≡ o = cc in subst (Spells ws) same h
 
-  read_spells : (o : Operation) → operation_in ws ≡ some o → Spells ws o
+  read_spells : (o : Operation) → operation_in ws ≡ Some o → Spells ws o
   read_spells o e = go (get_or ws 0 0) (is_absent L) (is_absent U) refl refl refl
     where
-      at : {k : ℕ} {a b : Bool} → get_or ws 0 0 ≡ k → is_absent L ≡ a → is_absent U ≡ b → operation_by k keep M (rests_by a b L U) ≡ some o
+      at : {k : ℕ} {a b : Bool} → get_or ws 0 0 ≡ k → is_absent L ≡ a → is_absent U ≡ b → operation_by k keep M (rests_by a b L U) ≡ Some o
       at p q r = sym (by_parts p q r) ∙ e
 
       go : (k : ℕ) (a b : Bool) → get_or ws 0 0 ≡ k → is_absent L ≡ a → is_absent U ≡ b → Spells ws o
@@ -168,46 +165,46 @@ module _ (ws : List ℕ) where
   keep_is true h = eq-eqb (get_or ws 1 0) 1 (h.1 refl)
   keep_is false h = ne_eqb (get_or ws 1 0) 1 (λ e. omega (arith, h.0 e))
 
-  spells_read : (o : Operation) → Spells ws o → operation_in ws ≡ some o
+  spells_read : (o : Operation) → Spells ws o → operation_in ws ≡ Some o
   spells_read (Map m) h = go h.words
     where
-      go : SameWords ws (words_of_operation (Map m)) → operation_in ws ≡ some (Map m)
+      go : SameWords ws (words_of_operation (Map m)) → operation_in ws ≡ Some (Map m)
       go (k, (a, (s, (o, (f, (l0, (l1, (l2, (l3, (u0, (u1, (u2, (u3, _))))))))))))) =
-          by_parts k (zeros_absent L (l0, l1, l2, l3)) (zeros_absent U (u0, u1, u2, u3)) ∙ ap (λ (n : Mapping). some (Map n)) (is 2 m a s o f)
+          by_parts k (zeros_absent L (l0, l1, l2, l3)) (zeros_absent U (u0, u1, u2, u3)) ∙ ap (λ (n : Mapping). Some (Map n)) (is 2 m a s o f)
   spells_read (Unmap keep m) h = go h.words
     where
-      go : SameWords ws (words_of_operation (Unmap keep m)) → operation_in ws ≡ some (Unmap keep m)
+      go : SameWords ws (words_of_operation (Unmap keep m)) → operation_in ws ≡ Some (Unmap keep m)
       go (k, (a, (s, (o, (f, (l0, (l1, (l2, (l3, (u0, (u1, (u2, (u3, _))))))))))))) =
           by_parts k (zeros_absent L (l0, l1, l2, l3)) (zeros_absent U (u0, u1, u2, u3))
-          ∙ ap₂ (λ (b : Bool) (n : Mapping). some (Unmap b n)) (keep_is keep (h.keep m (Memᴰ.head refl))) (is 2 m a s o f)
+          ∙ ap₂ (λ (b : Bool) (n : Mapping). Some (Unmap b n)) (keep_is keep (h.keep m (Memᴰ.head refl))) (is 2 m a s o f)
   spells_read (Remap keep m (Lower l)) h = go h.words
     where
-      go : SameWords ws (words_of_operation (Remap keep m (Lower l))) → operation_in ws ≡ some (Remap keep m (Lower l))
+      go : SameWords ws (words_of_operation (Remap keep m (Lower l))) → operation_in ws ≡ Some (Remap keep m (Lower l))
       go (k, (a, (s, (o, (f, (l0, (l1, (l2, (l3, (u0, (u1, (u2, (u3, _))))))))))))) =
           let e = is 6 l l0 l1 l2 l3 in
           by_parts k (ap is_absent e ∙ present_false l h.there.0) (zeros_absent U (u0, u1, u2, u3))
-          ∙ λ i. some (Remap (keep_is keep (h.keep m (Memᴰ.head refl)) i) (is 2 m a s o f i) (Lower (e i)))
+          ∙ λ i. Some (Remap (keep_is keep (h.keep m (Memᴰ.head refl)) i) (is 2 m a s o f i) (Lower (e i)))
   spells_read (Remap keep m (Upper u)) h = go h.words
     where
-      go : SameWords ws (words_of_operation (Remap keep m (Upper u))) → operation_in ws ≡ some (Remap keep m (Upper u))
+      go : SameWords ws (words_of_operation (Remap keep m (Upper u))) → operation_in ws ≡ Some (Remap keep m (Upper u))
       go (k, (a, (s, (o, (f, (l0, (l1, (l2, (l3, (u0, (u1, (u2, (u3, _))))))))))))) =
           let e = is 10 u u0 u1 u2 u3 in
           by_parts k (zeros_absent L (l0, l1, l2, l3)) (ap is_absent e ∙ present_false u h.there.0)
-          ∙ λ i. some (Remap (keep_is keep (h.keep m (Memᴰ.head refl)) i) (is 2 m a s o f i) (Upper (e i)))
+          ∙ λ i. Some (Remap (keep_is keep (h.keep m (Memᴰ.head refl)) i) (is 2 m a s o f i) (Upper (e i)))
   spells_read (Remap keep m (Both l u)) h = go h.words
     where
-      go : SameWords ws (words_of_operation (Remap keep m (Both l u))) → operation_in ws ≡ some (Remap keep m (Both l u))
+      go : SameWords ws (words_of_operation (Remap keep m (Both l u))) → operation_in ws ≡ Some (Remap keep m (Both l u))
       go (k, (a, (s, (o, (f, (l0, (l1, (l2, (l3, (u0, (u1, (u2, (u3, _))))))))))))) =
           let d = is 6 l l0 l1 l2 l3 in
           let e = is 10 u u0 u1 u2 u3 in
           by_parts k (ap is_absent d ∙ present_false l h.there.0) (ap is_absent e ∙ present_false u h.there.1.0)
-          ∙ λ i. some (Remap (keep_is keep (h.keep m (Memᴰ.head refl)) i) (is 2 m a s o f i) (Both (d i) (e i)))
+          ∙ λ i. Some (Remap (keep_is keep (h.keep m (Memᴰ.head refl)) i) (is 2 m a s o f i) (Both (d i) (e i)))
 
 -- ── a request's own ──
 
 -- read as it was written
 abbrev pub Own : Operation → Type 0
-Own o = operation_in (words_of_operation o) ≡ some o
+Own o = operation_in (words_of_operation o) ≡ Some o
 
 own_spells : (o : Operation) → Each (λ m. 0 < m.size) (rests o) → Spells (words_of_operation o) o
 own_spells o h = record {
@@ -252,13 +249,4 @@ pub operation_reading : OperationReading
 operation_reading = record {
   exactly = λ ws o. (read_spells ws o, spells_read ws o);
   own = own_operations;
-  pinned = back_pins listed_operation listed listed_back;
 }
-  where
-    listed : Option Operation → Listed
-    listed none = Unknown
-    listed (some o) = Known o
-
-    listed_back : (l : Listed) → listed (listed_operation l) ≡ l
-    listed_back (Known o) = refl
-    listed_back Unknown = refl

@@ -4,19 +4,12 @@ use mathlib.Core.Path.{◌≡◌, refl, sym, ap, ◌∙◌}
 use mathlib.Core.List.{List, [], ◌∷◌}
 use Prim.Native.Nat.{ℕ, ◌-◌}
 use lib.ListN.{get_or}
+use Rattle.std.specs.Prelude.{Result, Ok, Err}
 use Rattle.model.specs.Rows.{Reply, refused, answered}
-use Rattle.model.specs.Calls.{numbered, verdict_reply, decoded_reply, answer_reply, found_reply}
+use Rattle.model.specs.Calls.{numbered, reply_of}
 use Rattle.model.specs.Exactly.{Pins, Pinned}
 use Rattle.model.specs.declared.Refusal.{Refusal}
 use Rattle.model.specs.declared.Refusal.TheVariants.{BadSpace, BadTableLength, ShortOperations, BadCount, BadMapping, Unaligned, OutsideSpace, Reserved, BadObject, BadOffset, NoRoom, BadRecordLength, BadOp, BadFlags, BadWorkLength, ShortOutput, StaleWords, BadRanges, RangeOverlaps, NoSuchRange}
-use Rattle.model.specs.declared.Verdict.{Verdict}
-use Rattle.model.specs.declared.Verdict.TheVariants.{Pass, Refuse as VerdictRefuse}
-use Rattle.model.specs.declared.Decoded.{Decoded}
-use Rattle.model.specs.declared.Decoded.TheVariants.{Record, Refuse}
-use Rattle.model.specs.declared.Answer.{Answer}
-use Rattle.model.specs.declared.Answer.TheVariants.{Granted, Refused}
-use Rattle.model.specs.declared.Found.{Found}
-use Rattle.model.specs.declared.Found.TheVariants.{Shows, Refused as FoundRefused}
 
 abbrev pub refusals : ℕ → List Refusal
 refusals p =
@@ -50,34 +43,17 @@ named_numbered BadRanges = refl
 named_numbered RangeOverlaps = refl
 named_numbered NoSuchRange = refl
 
--- an enum with two kinds of case: its reading, read back
-abbrev back : {A B : Type 0} → (A → B) → (Refusal → B) → Reply A → B
-back answer refuse (refused n p) = refuse (named n p)
-back answer refuse (answered a) = answer a
+-- the Result of a reply
+abbrev result_of : {A : Type 0} → Reply A → Result A Refusal
+result_of (refused n p) = Err (named n p)
+result_of (answered a) = Ok a
 
-verdict_back : (u : Verdict) → back (λ _. Pass) VerdictRefuse (verdict_reply u) ≡ u
-verdict_back Pass = refl
-verdict_back (VerdictRefuse w) = ap VerdictRefuse (named_numbered w)
-
-decoded_back : (d : Decoded) → back Record Refuse (decoded_reply d) ≡ d
-decoded_back (Record r) = refl
-decoded_back (Refuse w) = ap Refuse (named_numbered w)
-
-answer_back : (a : Answer) → back Granted Refused (answer_reply a) ≡ a
-answer_back (Granted g) = refl
-answer_back (Refused w) = ap Refused (named_numbered w)
-
-found_back : (f : Found) → back Shows FoundRefused (found_reply f) ≡ f
-found_back (Shows x) = refl
-found_back (FoundRefused w) = ap FoundRefused (named_numbered w)
+read_back : {A : Type 0} (r : Result A Refusal) → result_of (reply_of r) ≡ r
+read_back (Ok a) = refl
+read_back (Err w) = ap Err (named_numbered w)
 
 pub back_pins : {A B : Type 0} (read : A → B) (back : B → A) → ((a : A) → back (read a) ≡ a) → Pins read
 back_pins read back same a b e = sym (same a) ∙ ap back e ∙ same b
 
-pub pinned : Pinned
-pinned = (
-  back_pins verdict_reply (back (λ _. Pass) VerdictRefuse) verdict_back,
-  back_pins decoded_reply (back Record Refuse) decoded_back,
-  back_pins answer_reply (back Granted Refused) answer_back,
-  back_pins found_reply (back Shows FoundRefused) found_back,
-)
+pub pinned : {A : Type 0} → Pinned A
+pinned = back_pins reply_of result_of read_back

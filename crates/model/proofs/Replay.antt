@@ -2,8 +2,7 @@
 -- Assumes nothing.
 use mathlib.Core.Path.{◌≡◌, refl, sym, ap, ◌∙◌}
 use mathlib.Core.Bool.{Bool, true, false}
-use mathlib.Core.Option
-use mathlib.Core.Option.{Option, none, some, bind as bind_option}
+use Rattle.std.specs.Prelude.{None, Option, Some, option_and_then, option_map}
 use mathlib.Core.List.{List, [], ◌∷◌, ◌++◌, map, append_assoc}
 use Prim.Native.Nat.{ℕ, zero, suc, ◌≤◌, ◌<◌}
 use native.Mathlib.Omega.{arith}
@@ -31,22 +30,22 @@ equal-not : (x m : Mapping) → x.address < m.address → equal x m ≡ false
 equal-not x m h = rw (ne_eqb x.address m.address (omega arith))
 
 -- a mapping behind others of lower addresses gives way
-replace-at : (m : Mapping) (ns xs ms : List Mapping) → Each (λ x. x.address < m.address) xs → replace m ns (xs ++ m ∷ ms) ≡ some (xs ++ (ns ++ ms))
+replace-at : (m : Mapping) (ns xs ms : List Mapping) → Each (λ x. x.address < m.address) xs → replace m ns (xs ++ m ∷ ms) ≡ Some (xs ++ (ns ++ ms))
 unfolding replace
 replace-at m ns [] ms h = rw (equal_self m, replace)
-replace-at m ns (x ∷ xs) ms h = rw (equal-not x m h.0, replace) (ap (Option.map (◌∷◌ x)) (replace-at m ns xs ms h.1))
+replace-at m ns (x ∷ xs) ms h = rw (equal-not x m h.0, replace) (ap (option_map (◌∷◌ x)) (replace-at m ns xs ms h.1))
 
 -- a mapping gets the place between those that end before it and those that begin behind it
 insert-at : (m : Mapping) (xs ms : List Mapping) → 0 < m.size → Each (λ x. end x ≤ m.address) xs → Each (λ x. end m ≤ x.address) ms
-    → insert m (xs ++ ms) ≡ some (xs ++ m ∷ ms)
+    → insert m (xs ++ ms) ≡ Some (xs ++ m ∷ ms)
 unfolding insert
 insert-at m [] [] z h k = refl
 insert-at m [] (x ∷ ms) z h k = rw (lt-leb (end x) m.address (omega arith), le-leb (end m) x.address k.0, insert)
-insert-at m (x ∷ xs) ms z h k = rw (le-leb (end x) m.address h.0, insert) (ap (Option.map (◌∷◌ x)) (insert-at m xs ms z h.1 k))
+insert-at m (x ∷ xs) ms z h k = rw (le-leb (end x) m.address h.0, insert) (ap (option_map (◌∷◌ x)) (insert-at m xs ms z h.1 k))
 
 -- a mapping that is hit gives way to its rests: neither is the whole, and the range lies between them
 apply_at : (r : Request) (m : Mapping) (xs ms : List Mapping) → Hit r m
-    → Each (λ x. x.address < m.address) xs → apply (operation_of r m) (xs ++ m ∷ ms) ≡ some (xs ++ (rests (operation_of r m) ++ ms))
+    → Each (λ x. x.address < m.address) xs → apply (operation_of r m) (xs ++ m ∷ ms) ≡ Some (xs ++ (rests (operation_of r m) ++ ms))
 apply_at r m xs ms k h = go l.size u.size _ refl refl
   where
     l : Mapping
@@ -55,13 +54,13 @@ apply_at r m xs ms k h = go l.size u.size _ refl refl
     u : Mapping
     u = upper_part (stop r) m
 
-    remap : (keep : Bool) (rs : Rests) → Alls (rest_tests m rs) → apply (Remap keep m rs) (xs ++ m ∷ ms) ≡ some (xs ++ (rests_of rs ++ ms))
+    remap : (keep : Bool) (rs : Rests) → Alls (rest_tests m rs) → apply (Remap keep m rs) (xs ++ m ∷ ms) ≡ Some (xs ++ (rests_of rs ++ ms))
     remap keep rs t =
-        ap (λ (b : Bool). choose b (replace m (rests_of rs) (xs ++ m ∷ ms)) none) (all_true (rest_tests m rs) t)
+        ap (λ (b : Bool). choose b (replace m (rests_of rs) (xs ++ m ∷ ms)) None) (all_true (rest_tests m rs) t)
         ∙ replace-at m (rests_of rs) xs ms h
 
     go : (i j : ℕ) (keep : Bool) → l.size ≡ i → u.size ≡ j
-        → apply (operation_for i j keep m l u) (xs ++ m ∷ ms) ≡ some (xs ++ (rests (operation_for i j keep m l u) ++ ms))
+        → apply (operation_for i j keep m l u) (xs ++ m ∷ ms) ≡ Some (xs ++ (rests (operation_for i j keep m l u) ++ ms))
     go zero zero keep p q = replace-at m [] xs ms h
     go (suc i) zero keep p q = remap keep (Lower l) (omega tests)
     go zero (suc j) keep p q = remap keep (Upper u) (omega tests)
@@ -83,8 +82,8 @@ rests_under r m z = rw (rests-parts r m)
 
 -- behind mappings that are dealt with: each that is hit gives way to its rests
 replay-hits : (r : Request) (from : ℕ) (xs ms : List Mapping) → 0 < r.size → Run from ms → Each (λ x. x.address < from) xs
-    → replay (map (operation_of r) (hits r ms)) (xs ++ ms) ≡ some (xs ++ left r ms)
-unfolding replay hits below above bind_option
+    → replay (map (operation_of r) (hits r ms)) (xs ++ ms) ≡ Some (xs ++ left r ms)
+unfolding replay hits below above
 replay-hits r from xs [] z run h = refl
 replay-hits r from xs (m ∷ ms) z run h = go (hits r (m ∷ ms)) (hits_first r m ms) (λ ys k. replay-hits r (end m) ys ms z run.2 k)
   where
@@ -95,22 +94,22 @@ replay-hits r from xs (m ∷ ms) z run h = go (hits r (m ∷ ms)) (hits_first r 
     lower = each_map (λ x. x.address < from) (λ x. x.address < m.address) xs (λ x k. omega arith) h
 
     IH : Type 0
-    IH = (ys : List Mapping) → Each (λ x. x.address < end m) ys → replay os (ys ++ ms) ≡ some (ys ++ left r ms)
+    IH = (ys : List Mapping) → Each (λ x. x.address < end m) ys → replay os (ys ++ ms) ≡ Some (ys ++ left r ms)
 
     -- the next mappings, with ns among those that are dealt with
-    next : IH → (ns : List Mapping) → Each (λ x. x.address < end m) ns → replay os (xs ++ (ns ++ ms)) ≡ some (xs ++ (ns ++ left r ms))
+    next : IH → (ns : List Mapping) → Each (λ x. x.address < end m) ns → replay os (xs ++ (ns ++ ms)) ≡ Some (xs ++ (ns ++ left r ms))
     next ih ns k = rw (← append_assoc xs ns ms, ← append_assoc xs ns (left r ms))
         (ih (xs ++ ns) (each_append (λ x. x.address < end m) xs ns
         (each_map (λ x. x.address < m.address) (λ x. x.address < end m) xs (λ x k. omega arith) lower) k))
 
-    go : (hs : List Mapping) → First r m ms hs → IH → replay (map (operation_of r) hs) (xs ++ m ∷ ms) ≡ some (xs ++ left r (m ∷ ms))
+    go : (hs : List Mapping) → First r m ms hs → IH → replay (map (operation_of r) hs) (xs ++ m ∷ ms) ≡ Some (xs ++ left r (m ∷ ms))
     go hs (missed n) ih =
         next ih (m ∷ []) (omega arith, tt)
-        ∙ ap (λ (ys : List Mapping). some (xs ++ ys)) (sym (left_missed r m ms run.2 run.1 z n))
+        ∙ ap (λ (ys : List Mapping). Some (xs ++ ys)) (sym (left_missed r m ms run.2 run.1 z n))
     go hs (hit k) ih =
-        ap (λ (o : Option (List Mapping)). bind_option o (replay os)) (apply_at r m xs ms k lower)
+        ap (λ (o : Option (List Mapping)). option_and_then (replay os) o) (apply_at r m xs ms k lower)
         ∙ next ih (rests (operation_of r m)) (rests_under r m run.1)
-        ∙ ap (λ (ys : List Mapping). some (xs ++ ys)) (sym (left_hit r m ms run.2 k))
+        ∙ ap (λ (ys : List Mapping). Some (xs ++ ys)) (sym (left_hit r m ms run.2 k))
 
 below_ends : (a : ℕ) (ms : List Mapping) → Each (λ x. end x ≤ a) (below a ms)
 unfolding below
@@ -122,21 +121,21 @@ unfolding above
 above_begins b [] = tt
 above_begins b (m ∷ ms) = each_prepend (λ x. b ≤ x.address) (upper_part b m) (above b ms) (λ k. omega arith) (above_begins b ms)
 
-pub replay-append : (os ps : List Operation) (ms : List Mapping) → replay (os ++ ps) ms ≡ bind_option (replay os ms) (replay ps)
-unfolding replay bind_option
+pub replay-append : (os ps : List Operation) (ms : List Mapping) → replay (os ++ ps) ms ≡ option_and_then (replay ps) (replay os ms)
+unfolding replay
 replay-append [] ps ms = refl
 replay-append (o ∷ os) ps ms = go (apply o ms) (replay-append os ps)
   where
-    go : (x : Option (List Mapping)) → ((ns : List Mapping) → replay (os ++ ps) ns ≡ bind_option (replay os ns) (replay ps))
-        → bind_option x (replay (os ++ ps)) ≡ bind_option (bind_option x (replay os)) (replay ps)
-    go none ih = refl
-    go (some ns) ih = ih ns
+    go : (x : Option (List Mapping)) → ((ns : List Mapping) → replay (os ++ ps) ns ≡ option_and_then (replay ps) (replay os ns))
+        → option_and_then (replay (os ++ ps)) x ≡ option_and_then (replay ps) (option_and_then (replay os) x)
+    go None ih = refl
+    go (Some ns) ih = ih ns
 
-pub replays : (r : Request) (ms : List Mapping) → 0 < r.size → Run 0 ms → replay (operations r ms) ms ≡ some (after r ms)
-unfolding operations replay bind_option
+pub replays : (r : Request) (ms : List Mapping) → 0 < r.size → Run 0 ms → replay (operations r ms) ms ≡ Some (after r ms)
+unfolding operations replay
 replays r ms z run =
     replay-append (map (operation_of r) (hits r ms)) (map Map (new r)) ms
-    ∙ ap (λ (o : Option (List Mapping)). bind_option o (replay (map Map (new r)))) (replay-hits r 0 [] ms z run tt)
+    ∙ ap (λ (o : Option (List Mapping)). option_and_then (replay (map Map (new r))) o) (replay-hits r 0 [] ms z run tt)
     ∙ maps r.op
   where
     b : List Mapping
@@ -145,7 +144,7 @@ replays r ms z run =
     a : List Mapping
     a = above (stop r) ms
 
-    maps : (op : ℕ) → replay (map Map (new_for op (mapping_of r))) (b ++ a) ≡ some (b ++ (new_for op (mapping_of r) ++ a))
-    maps zero = ap (λ (o : Option (List Mapping)). bind_option o (replay []))
+    maps : (op : ℕ) → replay (map Map (new_for op (mapping_of r))) (b ++ a) ≡ Some (b ++ (new_for op (mapping_of r) ++ a))
+    maps zero = ap (λ (o : Option (List Mapping)). option_and_then (replay []) o)
         (insert-at (mapping_of r) b a z (below_ends r.address ms) (above_begins (stop r) ms))
     maps (suc n) = refl

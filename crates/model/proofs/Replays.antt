@@ -6,7 +6,7 @@ use mathlib.Core.List.{List, [], ◌++◌, map, flat_map, append-nil}
 use Prim.Native.Nat.{ℕ, ◌+◌, ◌*◌, ◌≤◌}
 use native.Mathlib.Omega.{arith}
 use lib.ListN.{length, length-append, length-drop, drop}
-use Rattle.std.proofs.Math.Option.{some}
+use Rattle.std.specs.Prelude.{Some}
 use Rattle.model.specs.Prelude.{Space, Mapping, Request, Map, Grant}
 use Rattle.model.specs.Table.{mappings}
 use Rattle.model.specs.Cut.{new, after, operations, old, rests}
@@ -54,7 +54,7 @@ replay_claim s l os q g off e =
     it : Replays r l.table (rewritten l.table (after r ms)) (operations r ms) os
         (flat_map words_of_operation (operations r ms) ++ drop (14 * length (operations r ms)) os) (cut_grant r l)
     it = record {
-      replayed = replays r ms w.may.not_empty run ∙ ap some (sym (holds_mappings l.table _ (after r ms) (holds_rewritten l.table (after r ms) w.room)));
+      replayed = replays r ms w.may.not_empty run ∙ ap Some (sym (holds_mappings l.table _ (after r ms) (holds_rewritten l.table (after r ms) w.room)));
       hit = hit_members r ms;
       ascending = hits_ascend r ms (run_ascends 0 ms run);
       front = front r ms;

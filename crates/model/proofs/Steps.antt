@@ -2,7 +2,7 @@
 -- Assumes nothing.
 use mathlib.Core.Path.{◌≡◌, refl}
 use mathlib.Core.Bool.{false}
-use mathlib.Core.Option.{none, some}
+use Rattle.std.specs.Prelude.{None, Some}
 use mathlib.Core.List.{List, [], ◌∷◌}
 use Prim.Native.Nat.{ℕ}
 use Rattle.model.specs.Prelude.{Mapping, Lower, Upper, Both, Operation, Map, Remap, Unmap}
@@ -52,11 +52,11 @@ bad =
     ∷ Map (at 12288 8192 9 0)
     ∷ []
 
-not_taken : Each (λ o. apply o (m ∷ []) ≡ none) bad
+not_taken : Each (λ o. apply o (m ∷ []) ≡ None) bad
 unfolding replace insert
 not_taken = (refl, (refl, (refl, (refl, (refl, (refl, (refl, (refl, (refl, (refl, (refl, (refl, (refl, (refl, (refl, (refl, (refl, (refl, (refl, (refl, (refl, tt)))))))))))))))))))))
 
 -- and with every condition kept
-taken : apply (Remap false m (Both low high)) (m ∷ []) ≡ some (low ∷ high ∷ [])
+taken : apply (Remap false m (Both low high)) (m ∷ []) ≡ Some (low ∷ high ∷ [])
 unfolding replace
 taken = refl

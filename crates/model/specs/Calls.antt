@@ -1,5 +1,5 @@
 -- A request as it comes, the public calls (the answer and every lent word after it), and how code's answers are read.
-use Rattle.std.specs.Prelude.{Bool, List, [], ◌∷◌, ◌++◌, map, ℕ, zero, suc, ◌+◌, ◌*◌, ◌/◌, ◌%◌, leb, ltb, eqb, length, get_or, drop}
+use Rattle.std.specs.Prelude.{Bool, List, [], ◌∷◌, ◌++◌, map, ℕ, zero, suc, ◌+◌, ◌*◌, ◌/◌, ◌%◌, leb, ltb, eqb, length, get_or, drop, Result, Ok, Err}
 use mathlib.Core.List.{flat_map}
 use Rattle.model.specs.Prelude.{Range, Space, Request, Shown, Seen, Grant}
 pub use Rattle.model.specs.Rows.{all, choose, Row, row, Reply, refused, answered, decide, verdict, number_of}
@@ -14,14 +14,6 @@ use Rattle.model.specs.declared.Refusal.TheVariants.{BadMapping, Unaligned, Outs
 use Rattle.model.specs.declared.Refusal.TheVariants.{BadOffset, NoRoom, BadRecordLength, BadOp, BadFlags}
 use Rattle.model.specs.declared.Refusal.TheVariants.{BadWorkLength, ShortOutput, StaleWords, BadRanges}
 use Rattle.model.specs.declared.Refusal.TheVariants.{RangeOverlaps, NoSuchRange}
-use Rattle.model.specs.declared.Verdict.{Verdict}
-use Rattle.model.specs.declared.Verdict.TheVariants.{Pass, Refuse as VerdictRefuse}
-use Rattle.model.specs.declared.Decoded.{Decoded}
-use Rattle.model.specs.declared.Decoded.TheVariants.{Record, Refuse}
-use Rattle.model.specs.declared.Answer.{Answer}
-use Rattle.model.specs.declared.Answer.TheVariants.{Granted, Refused}
-use Rattle.model.specs.declared.Found.{Found}
-use Rattle.model.specs.declared.Found.TheVariants.{Shows, Refused as FoundRefused}
 
 -- document 01: Request record, 40 bytes, little-endian
 abbrev pub record_bytes : ℕ
@@ -234,8 +226,7 @@ check_rows bs s = record_rows sparse_flag bs ++ space_row s ∷ request_rows s (
 unfoldable pub check_request : List ℕ → Space → ℕ
 check_request bs s = number_of (verdict (check_rows bs s))
 
--- the answer enums of src/lib.rt, each case in document 01's numbers and values. A refusal's number and place: 5 has
--- its mapping's, the others 0
+-- a refusal of src/lib.rt in document 01's numbers, and its place: 5 has its mapping's, the others 0
 abbrev pub numbered : Refusal → ℕ × ℕ
 numbered BadSpace = (1, 0)
 numbered BadTableLength = (2, 0)
@@ -261,18 +252,7 @@ numbered NoSuchRange = (20, 0)
 abbrev pub refusal_reply : {A : Type 0} → Refusal → Reply A
 refusal_reply w = refused (numbered w).0 (numbered w).1
 
-abbrev pub verdict_reply : Verdict → Reply (Unit {0})
-verdict_reply Pass = answered tt
-verdict_reply (VerdictRefuse w) = refusal_reply w
-
-abbrev pub decoded_reply : Decoded → Reply Request
-decoded_reply (Record r) = answered r
-decoded_reply (Refuse w) = refusal_reply w
-
-abbrev pub answer_reply : Answer → Reply Grant
-answer_reply (Granted g) = answered g
-answer_reply (Refused w) = refusal_reply w
-
-abbrev pub found_reply : Found → Reply Seen
-found_reply (Shows x) = answered x
-found_reply (FoundRefused w) = refusal_reply w
+-- a Result of the code: what it answers, or its refusal's number and place
+abbrev pub reply_of : {A : Type 0} → Result A Refusal → Reply A
+reply_of (Ok a) = answered a
+reply_of (Err w) = refusal_reply w

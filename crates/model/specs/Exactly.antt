@@ -1,13 +1,14 @@
 -- The papers' rules in words; their numbers are written out, but for the most mappings of a table. A call gives a
 -- line's answer exactly if its rule is broken and no line's above it.
-use Rattle.std.specs.Prelude.{◌≡◌, ◌⊎◌, ◌↔◌, List, [], ◌∷◌, ℕ, suc, ◌+◌, ◌*◌, ◌/◌, ◌%◌, ◌^◌, ◌≤◌, ◌<◌, pos, ◌-ℤ◌, length, get_or, take, replicate}
+use Rattle.std.specs.Prelude.{◌≡◌, ◌⊎◌, ◌↔◌, List, [], ◌∷◌, ℕ, suc, ◌+◌, ◌*◌, ◌/◌, ◌%◌, ◌^◌, ◌≤◌, ◌<◌, pos, ◌-ℤ◌, length, get_or, take, replicate, Result}
 use mathlib.Core.List.{flat_map, Memᴰ as Member}
 use Rattle.model.specs.Prelude.{Range, Space, Mapping}
 use Rattle.model.specs.Prelude.{Request, Seen, Grant}
 use Rattle.model.specs.Calls.{Reply, refused, answered, most_mappings, end, stop, request_of, record_of, Table}
 use Rattle.model.specs.Calls.{mappings, written, bad_place, RangeList, ranges, range_end, list_written, operations}
 use Rattle.model.specs.Calls.{old, rests, Asking, numbers, bytes, asked, Lent, range_of, purpose, grant_for, bind}
-use Rattle.model.specs.Calls.{see_in, lookup, check_request, verdict_reply, decoded_reply, answer_reply, found_reply}
+use Rattle.model.specs.Calls.{see_in, lookup, check_request, reply_of}
+use Rattle.model.specs.declared.Refusal.{Refusal}
 
 infix 40 ◌∈◌ ◌⊆◌
 abbrev pub Each : {A : Type 0} → (A → Type 0) → List A → Type 0
@@ -231,9 +232,9 @@ RecordLayout =
     request_of (1 ∷ 2 ∷ 3 ∷ 4 ∷ 5 ∷ 6 ∷ 7 ∷ 8 ∷ 9 ∷ 10 ∷ 11 ∷ 12 ∷ 13 ∷ 14 ∷ 15 ∷ 16 ∷ 17 ∷ 18 ∷ 19 ∷ 20 ∷ 21 ∷ 22 ∷ 23 ∷ 24 ∷ 25 ∷ 26 ∷ 27 ∷ 28 ∷ 29 ∷ 30 ∷ 31 ∷ 32 ∷ 33 ∷ 34 ∷ 35 ∷ 36 ∷ 37 ∷ 38 ∷ 39 ∷ 40 ∷ [])
     ≡ record { op = 67305985; flags = 134678021; object = 202050057; pad = 269422093; address = 1735880461161533969; offset = 2314601843866147353; size = 2893323226570760737 }
 
--- no two values of an answer enum read alike, so that a promise about the reading pins the value
+-- no two values of an answer read alike, so that a promise about the reading pins the value
 abbrev pub Pins : {A B : Type 0} → (A → B) → Type 0
 Pins {A} read = (a b : A) → read a ≡ read b → a ≡ b
 
-abbrev pub Pinned : Type 0
-Pinned = Pins verdict_reply × Pins decoded_reply × Pins answer_reply × Pins found_reply
+abbrev pub Pinned : (A : Type 0) → Type 0
+Pinned A = Pins {A = Result A Refusal} {B = Reply A} reply_of

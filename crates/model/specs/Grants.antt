@@ -1,14 +1,14 @@
 -- What a grant does: demand 2 in terms of the public calls, and the operations as a driver takes them.
 use Rattle.std.specs.Prelude.{◌≡◌, ◌⊎◌, ◌↔◌, Bool, List, [], ◌∷◌, ◌++◌, ℕ, ◌+◌, ◌-◌, ◌*◌, ◌≤◌, ◌<◌, leb, ltb, eqb, length, get_or, drop, replicate}
-use Rattle.std.proofs.Math.Option.{Option, none, some, map as map_option, bind as bind_option}
+use Rattle.std.specs.Prelude.{None, Option, Some, option_and_then, option_map}
 use mathlib.Core.List.{flat_map}
 use Rattle.model.specs.Prelude.{Space, Mapping, Request, Rests, Lower, Upper, Both, Operation, Map}
 use Rattle.model.specs.Prelude.{Remap, Unmap, Shown, Object, Grant}
 use Rattle.model.specs.Calls.{all, choose, answered, end, stop, Table, mappings, ranges, bare, operations}
 use Rattle.model.specs.Calls.{rests_of, old, rests, words_of_operation, translate, Asking, asked, Lent, bind}
 use Rattle.model.specs.Calls.{lent_after, see_in, lookup, shown_reply}
-use Rattle.model.specs.Layout.{operation_in, listed_operation}
-use Rattle.model.specs.Exactly.{Each, ◌∈◌, ShareByte, Ascends, TableRules, Unflagged, Agree, Pins}
+use Rattle.model.specs.Layout.{operation_in}
+use Rattle.model.specs.Exactly.{Each, ◌∈◌, ShareByte, Ascends, TableRules, Unflagged, Agree}
 
 -- what a byte address shows in what is lent; off mappings sparse or nothing, as the list says
 abbrev pub off_mappings : Lent → ℕ → Shown
@@ -52,28 +52,28 @@ rest_tests m (Both l u) = ltb (end l) u.address ∷ (lower_tests m l ++ upper_te
 
 -- the mapping m gives way to others
 unfoldable pub replace : Mapping → List Mapping → List Mapping → Option (List Mapping)
-replace m ns [] = none
-replace m ns (x ∷ ms) = choose (equal x m) (some (ns ++ ms)) (map_option (◌∷◌ x) (replace m ns ms))
+replace m ns [] = None
+replace m ns (x ∷ ms) = choose (equal x m) (Some (ns ++ ms)) (option_map (◌∷◌ x) (replace m ns ms))
 
 -- m stands behind those that end at or before its address, and ends at or before the next
 unfoldable pub insert : Mapping → List Mapping → Option (List Mapping)
-insert m [] = some (m ∷ [])
+insert m [] = Some (m ∷ [])
 insert m (x ∷ ms) =
-    choose (leb (end x) m.address) (map_option (◌∷◌ x) (insert m ms)) (choose (leb (end m) x.address) (some (m ∷ x ∷ ms)) none)
+    choose (leb (end x) m.address) (option_map (◌∷◌ x) (insert m ms)) (choose (leb (end m) x.address) (Some (m ∷ x ∷ ms)) None)
 
 -- an operation taken: not if the old mapping is not there, a rest is not that end of it, or the new range is occupied
 abbrev pub apply : Operation → List Mapping → Option (List Mapping)
 apply (Map m) ms = insert m ms
 apply (Unmap keep m) ms = replace m [] ms
-apply (Remap keep m rs) ms = choose (all (rest_tests m rs)) (replace m (rests_of rs) ms) none
+apply (Remap keep m rs) ms = choose (all (rest_tests m rs)) (replace m (rests_of rs) ms) None
 
 unfoldable pub replay : List Operation → List Mapping → Option (List Mapping)
-replay [] ms = some ms
-replay (o ∷ os) ms = bind_option (apply o ms) (replay os)
+replay [] ms = Some ms
+replay (o ∷ os) ms = option_and_then (replay os) (apply o ms)
 
 -- g is the grant, os its operations, lent and written what the operation slice holds before the call and after it
 pub record Replays (r : Request) (t u : Table) (os : List Operation) (lent written : List ℕ) (g : Grant) : Type 0 where
-  pub replayed : replay os (mappings t) ≡ some (mappings u)
+  pub replayed : replay os (mappings t) ≡ Some (mappings u)
   -- one for each mapping hit, in ascending address, and a map's own at the very end
   pub hit : (m : Mapping) → m ∈ flat_map old os ↔ (m ∈ mappings t × ShareByte m.address (end m) r.address (stop r))
   pub ascending : Ascends (flat_map old os)
@@ -150,7 +150,6 @@ pub record Spells (ws : List ℕ) (o : Operation) : Type 0 where
 -- an operation is read from words exactly if they spell it; so a request's own operations are read back as they were
 -- written
 pub record OperationReading : Type 0 where
-  pub exactly : (ws : List ℕ) (o : Operation) → (operation_in ws ≡ some o) ↔ Spells ws o
-  pub own : (r : Request) (ms : List Mapping) → Each (λ o. operation_in (words_of_operation o) ≡ some o) (operations r ms)
+  pub exactly : (ws : List ℕ) (o : Operation) → (operation_in ws ≡ Some o) ↔ Spells ws o
+  pub own : (r : Request) (ms : List Mapping) → Each (λ o. operation_in (words_of_operation o) ≡ Some o) (operations r ms)
   -- and no two values of the answer enum read alike
-  pub pinned : Pins listed_operation

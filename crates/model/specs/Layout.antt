@@ -1,11 +1,8 @@
 -- An operation in words (document 01: an operation is 14 words), and the operation that 14 words say.
-use Rattle.std.specs.Prelude.{Bool, true, false, List, [], ◌∷◌, ◌++◌, ℕ, zero, suc, eqb, get_or}
-use Rattle.std.proofs.Math.Option.{Option, none, some}
+use Rattle.std.specs.Prelude.{Bool, true, false, List, [], ◌∷◌, ◌++◌, ℕ, zero, suc, eqb, get_or, Option, Some, None}
 use Rattle.model.specs.Prelude.{Mapping, Rests, Lower, Upper, Both, Operation, Map, Remap, Unmap}
 use Rattle.model.specs.Rows.{all, choose}
 use Rattle.model.specs.Table.{mapping_from, words_of}
-use Rattle.model.specs.declared.Listed.{Listed}
-use Rattle.model.specs.declared.Listed.TheVariants.{Known, Unknown}
 
 -- an absent rest
 abbrev pub absent : List ℕ
@@ -28,20 +25,20 @@ is_absent m = all (eqb m.address 0 ∷ eqb m.size 0 ∷ eqb m.object 0 ∷ eqb m
 
 -- by which of the two is absent
 abbrev pub rests_by : Bool → Bool → Mapping → Mapping → Option Rests
-rests_by true true l u = none
-rests_by false true l u = some (Lower l)
-rests_by true false l u = some (Upper u)
-rests_by false false l u = some (Both l u)
+rests_by true true l u = None
+rests_by false true l u = Some (Lower l)
+rests_by true false l u = Some (Upper u)
+rests_by false false l u = Some (Both l u)
 
 -- by the kind: a map and an unmap have no rests, a remap has some; another kind is no operation
 abbrev pub operation_by : ℕ → Bool → Mapping → Option Rests → Option Operation
-operation_by zero keep m none = some (Map m)
-operation_by zero keep m (some rs) = none
-operation_by (suc zero) keep m none = none
-operation_by (suc zero) keep m (some rs) = some (Remap keep m rs)
-operation_by (suc (suc zero)) keep m none = some (Unmap keep m)
-operation_by (suc (suc zero)) keep m (some rs) = none
-operation_by (suc (suc (suc k))) keep m rs = none
+operation_by zero keep m None = Some (Map m)
+operation_by zero keep m (Some rs) = None
+operation_by (suc zero) keep m None = None
+operation_by (suc zero) keep m (Some rs) = Some (Remap keep m rs)
+operation_by (suc (suc zero)) keep m None = Some (Unmap keep m)
+operation_by (suc (suc zero)) keep m (Some rs) = None
+operation_by (suc (suc (suc k))) keep m rs = None
 
 abbrev pub rests_in : Mapping → Mapping → Option Rests
 rests_in l u = rests_by (is_absent l) (is_absent u) l u
@@ -49,8 +46,3 @@ rests_in l u = rests_by (is_absent l) (is_absent u) l u
 -- the operation in the first 14 words, if they are one
 unfoldable pub operation_in : List ℕ → Option Operation
 operation_in ws = operation_by (get_or ws 0 0) (eqb (get_or ws 1 0) 1) (mapping_from 2 ws) (rests_in (mapping_from 6 ws) (mapping_from 10 ws))
-
--- the answer enum of src/lib.rt
-abbrev pub listed_operation : Listed → Option Operation
-listed_operation (Known o) = some o
-listed_operation Unknown = none

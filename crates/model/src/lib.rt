@@ -3,7 +3,7 @@
 #![tactic(auto)]
 
 // A range of addresses: [start, start + size). A reservation is one, and a sparse range.
-#[derive(Clone, Copy)]
+#[derive(Clone, Copy, PartialEq, Eq)]
 pub struct Range {
     pub start: u64,
     pub size: u64,
@@ -18,7 +18,7 @@ pub struct Space {
 }
 
 // A mapping (document 01: Mapping): [address, address + size) shows the object from the offset on.
-#[derive(Clone, Copy)]
+#[derive(Clone, Copy, PartialEq, Eq, Default)]
 pub struct Mapping {
     pub address: u64,
     pub size: u64,
@@ -65,20 +65,6 @@ pub enum Refusal {
     NoSuchRange,
 }
 
-// What a check of some rows of the table says.
-#[derive(Clone, Copy)]
-pub enum Verdict {
-    Pass,
-    Refuse(Refusal),
-}
-
-// What the bytes of a record say.
-#[derive(Clone, Copy)]
-pub enum Decoded {
-    Record(Request),
-    Refuse(Refusal),
-}
-
 // What a remap leaves of the old mapping: a lower rest, an upper rest, or both.
 #[derive(Clone, Copy)]
 pub enum Rests {
@@ -93,13 +79,6 @@ pub enum Operation {
     Map(Mapping),
     Remap(bool, Mapping, Rests),
     Unmap(bool, Mapping),
-}
-
-// What fourteen words of an operation list say: an operation, or none.
-#[derive(Clone, Copy)]
-pub enum Listed {
-    Known(Operation),
-    Unknown,
 }
 
 // What a byte address shows: nothing; a sparse range and no mapping; or an object's byte at an offset.
@@ -125,18 +104,4 @@ pub struct Grant {
     pub operations: usize,
     pub count: usize,
     pub ranges: usize,
-}
-
-// The answer to a request.
-#[derive(Clone, Copy)]
-pub enum Answer {
-    Granted(Grant),
-    Refused(Refusal),
-}
-
-// The answer to a look-up.
-#[derive(Clone, Copy)]
-pub enum Found {
-    Shows(Seen),
-    Refused(Refusal),
 }

@@ -2,7 +2,7 @@
 -- Assumes nothing.
 use mathlib.Core.Path.{◌≡◌, refl, sym, ap, subst, ◌∙◌}
 use mathlib.Core.Logic.{◌⊎◌, ⊎_elim, ⊎_map}
-use mathlib.Core.Option.{some}
+use Rattle.std.specs.Prelude.{Some}
 use mathlib.Core.List.{List, [], ◌∷◌, ◌++◌, append_assoc, flat_map}
 use Prim.Native.Nat.{ℕ, suc, ◌*◌}
 use native.Mathlib.Omega.{arith}
@@ -32,7 +32,7 @@ use Rattle.script.specs.Progress.{listed_lines, operation_at, pending, Known, Ou
 
 -- the i-th, behind what was written before
 written_at : (front : List ℕ) (i : ℕ) (o : Operation) (rest : List ℕ) → length front ≡ 14 * i → Own o
-    → operation_at (front ++ (words_of_operation o ++ rest)) i ≡ some o
+    → operation_at (front ++ (words_of_operation o ++ rest)) i ≡ Some o
 written_at front i o rest h own =
     ap operation_in (ap (take 14) (drop_at front (words_of_operation o ++ rest) (14 * i) h) ∙ take_at (words_of_operation o) rest 14 (operation_length o)) ∙ own
 
@@ -47,12 +47,12 @@ written_from front i (o ∷ ops) tail h own =
     let n : length (front ++ words_of_operation o) ≡ 14 * suc i = simp length-append (omega (arith, operation_length o)) in
     let d : front ++ ((words_of_operation o ++ flat_map words_of_operation ops) ++ tail) ≡ front ++ (words_of_operation o ++ rest) = simp append_assoc in
     let e : front ++ (words_of_operation o ++ rest) ≡ (front ++ words_of_operation o) ++ rest = simp append_assoc in
-    let at : operation_at ((front ++ words_of_operation o) ++ rest) i ≡ some o =
+    let at : operation_at ((front ++ words_of_operation o) ++ rest) i ≡ Some o =
     ap (λ (ws : List ℕ). operation_at ws i) (sym e) ∙ written_at front i o rest h own.0 in
     let behind = written_from (front ++ words_of_operation o) (suc i) ops tail n own.1 in
     subst
     (λ (ws : List ℕ). (listed_lines (operation_at ws i) ++ pending ws (suc i) (length ops) ≡ operation_lines o ++ flat_map operation_lines ops)
-    × (((x : Operation) × (operation_at ws i ≡ some x)) × Known ws (suc i) (length ops)))
+    × (((x : Operation) × (operation_at ws i ≡ Some x)) × Known ws (suc i) (length ops)))
     (sym (d ∙ e))
     (rw at (ap (◌++◌ (operation_lines o)) behind.0, ((o, refl), behind.1)))
 

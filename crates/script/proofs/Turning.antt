@@ -3,7 +3,7 @@
 use mathlib.Core.Path.{◌≡◌, refl, sym, ap, ◌∙◌}
 use mathlib.Core.Logic.{◌⊎◌, inl, inr, ⊎_elim}
 use mathlib.Core.Bool.{Bool, true, false}
-use mathlib.Core.Option.{Option, some}
+use Rattle.std.specs.Prelude.{Option, Some}
 use mathlib.Core.List.{List, [], ◌++◌, append_assoc}
 use Prim.Native.Nat.{ℕ, zero, suc, ◌+◌, ◌-◌, ◌<◌}
 use native.Mathlib.Numerals.{add-one}
@@ -43,7 +43,7 @@ module _ (rs ws os bs : List ℕ) (last : Bool) {out : List ℕ} {at : ℕ} wher
 -- the next operation, and those behind it
 record Following (os : List ℕ) (i n : ℕ) : Type 0 where
   operation : Operation
-  is : operation_at os i ≡ some operation
+  is : operation_at os i ≡ Some operation
   lines : pending os i n ≡ listed_lines (operation_at os i) ++ pending os (i + 1) (n - 1)
   rest : Outstanding os (i + 1) (n - 1)
 

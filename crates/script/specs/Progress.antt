@@ -1,7 +1,7 @@
 -- The program between two reads: what it holds, what is still to be printed, and what a turn promises.
 -- Assumes nothing.
 use Rattle.std.specs.Prelude.{◌≡◌, ◌⊎◌, Bool, true, false, List, [], ◌++◌, ℕ, zero, suc, ◌+◌, ◌*◌, ◌^◌, ◌≤◌, ◌<◌, length, take, drop}
-use Rattle.std.proofs.Math.Option.{Option, none, some}
+use Rattle.std.specs.Prelude.{None, Option, Some}
 use Rattle.model.specs.declared.Operation.{Operation}
 use Rattle.model.specs.Rows.{choose}
 use Rattle.model.specs.Layout.{operation_in}
@@ -18,8 +18,8 @@ abbrev pub operation_at : List ℕ → ℕ → Option Operation
 operation_at os i = operation_in (take 14 (drop (14 * i) os))
 
 abbrev pub listed_lines : Option Operation → List ℕ
-listed_lines none = []
-listed_lines (some o) = operation_lines o
+listed_lines None = []
+listed_lines (Some o) = operation_lines o
 
 -- the lines of n operations, from the i-th on
 unfoldable pub pending : List ℕ → ℕ → ℕ → List ℕ
@@ -29,7 +29,7 @@ pending os i (suc n) = listed_lines (operation_at os i) ++ pending os (suc i) n
 -- n operations are there, from the i-th on
 unfoldable pub Known : List ℕ → ℕ → ℕ → Type 0
 Known os i zero = Unit {0}
-Known os i (suc n) = ((o : Operation) × (operation_at os i ≡ some o)) × Known os (suc i) n
+Known os i (suc n) = ((o : Operation) × (operation_at os i ≡ Some o)) × Known os (suc i) n
 
 -- the operations still to be printed, `left` of them from the one numbered `next` on, are there
 pub record Outstanding (os : List ℕ) (next left : ℕ) : Type 0 where
