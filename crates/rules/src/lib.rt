@@ -1,5 +1,5 @@
 // The rules of a space, a mapping, a sparse range and a request, for any 64-bit numbers: each function is the model's
-// tests, in their order. Sums are compared exactly, and none is made that could wrap.
+// tests, in their order, most with & between them: no branch. Sums are compared exactly, and none is made that could wrap.
 #![tactic(auto)]
 
 ghost use Rattle.std.specs.Prelude.{◌≡◌, ◌+◌, min, max, leb};
@@ -7,9 +7,9 @@ ghost use Rattle.model.specs.Rows.{all, choose, verdict};
 ghost use Rattle.model.specs.Rules.{aligned, apart, space_tests, form_rows, request_rows, alignment_row, inside_row, object_row, offset_row};
 ghost use Rattle.model.specs.Table.{fit_tests};
 ghost use Rattle.model.specs.Ranges.{range_tests};
-ghost use Rattle.model.specs.Calls.{numbered, verdict_reply};
+ghost use Rattle.model.specs.Calls.{numbered, reply_of};
 
-use model::{Mapping, Range, Refusal, Request, Space, Verdict};
+use model::{Mapping, Range, Refusal, Request, Space};
 
 const PAGE: u64 = 4096;
 
@@ -31,26 +31,14 @@ pub fn is_aligned(x: u64) -> bool
 fn sum_at_most(a: u64, b: u64, c: u64, d: u64) -> bool
     ensures { result ≡ leb (a + b) (c + d) }
 {
-    if a <= c {
-        if b <= d {
-            return true;
-        }
-        return b - d <= c - a;
-    }
-    if d < b {
-        return false;
-    }
-    a - c <= d - b
+    u128::from(a) + u128::from(b) <= u128::from(c) + u128::from(d)
 }
 
 // a + b is at most `most`.
 fn sum_within(a: u64, b: u64, most: u64) -> bool
     ensures { result ≡ leb (a + b) most }
 {
-    if most < b {
-        return false;
-    }
-    a <= most - b
+    b <= most && a <= most - b
 }
 
 pub fn greater(a: u64, b: u64) -> u64
@@ -76,7 +64,7 @@ pub fn mark(keep: bool) -> u64
 fn are_apart(a: u64, n: u64, c: u64, m: u64) -> bool
     ensures { result ≡ apart a (a + n) c (c + m) }
 {
-    let start = greater(a, c);
+    let start = a.max(c);
     sum_within(a, n, start) | sum_within(c, m, start)
 }
 
@@ -143,57 +131,56 @@ fn range_is_inside(s: Space, r: Request) -> bool
 fn object_is_right(r: Request) -> bool
     ensures { result ≡ all (object_row r).tests }
 {
-    if (r.op == 0) & (r.flags == 0) {
-        return (1 <= r.object) & (r.object <= LAST_OBJECT);
+    if r.op == 0 && r.flags == 0 {
+        return 1 <= r.object && r.object <= LAST_OBJECT;
     }
-    (r.object == 0) & (r.offset == 0)
+    r.object == 0 && r.offset == 0
 }
 
 fn offset_is_right(r: Request) -> bool
     ensures { result ≡ all (offset_row r).tests }
 {
-    if r.op == 0 {
-        return sum_within(r.offset, r.size, LIMIT);
-    }
-    true
+    r.op != 0 || sum_within(r.offset, r.size, LIMIT)
 }
 
-// Rows 13 and 14: the form of a request, where a flag is served; 0 where none is.
-pub fn form_verdict(r: Request, served: u64) -> Verdict
-    ensures { verdict_reply result ≡ verdict (form_rows served r) }
+// Rows 13 and 14: the form of a request. Flags are 0, or those that are served.
+#[tactic(auto, unfolding(model::specs::Rows::decide, model::specs::Rules::form_rows))]
+pub fn form_verdict(r: Request, served: u64) -> Result<(), Refusal>
+    ensures { reply_of result ≡ verdict (form_rows served r) }
 {
     if 1 < r.op {
-        return Verdict::Refuse(Refusal::BadOp);
+        return Err(Refusal::BadOp);
     }
-    if ((r.flags == 0) | (r.flags == served)) & (r.pad == 0) {
-        return Verdict::Pass;
+    if (r.flags != 0 && r.flags != served) || r.pad != 0 {
+        return Err(Refusal::BadFlags);
     }
-    Verdict::Refuse(Refusal::BadFlags)
+    Ok(())
 }
 
 // Rows 6 to 10: what a request asks of a space.
-pub fn request_verdict(s: Space, r: Request) -> Verdict
-    ensures { verdict_reply result ≡ verdict (request_rows s r) }
+#[tactic(auto, unfolding(model::specs::Rows::decide, model::specs::Rules::request_rows))]
+pub fn request_verdict(s: Space, r: Request) -> Result<(), Refusal>
+    ensures { reply_of result ≡ verdict (request_rows s r) }
 {
     if !range_is_aligned(r) {
-        return Verdict::Refuse(Refusal::Unaligned);
+        return Err(Refusal::Unaligned);
     }
     if !range_is_inside(s, r) {
-        return Verdict::Refuse(Refusal::OutsideSpace);
+        return Err(Refusal::OutsideSpace);
     }
     if !are_apart(r.address, r.size, s.reserved.start, s.reserved.size) {
-        return Verdict::Refuse(Refusal::Reserved);
+        return Err(Refusal::Reserved);
     }
     if !object_is_right(r) {
-        return Verdict::Refuse(Refusal::BadObject);
+        return Err(Refusal::BadObject);
     }
     if !offset_is_right(r) {
-        return Verdict::Refuse(Refusal::BadOffset);
+        return Err(Refusal::BadOffset);
     }
-    Verdict::Pass
+    Ok(())
 }
 
-// A refusal's number in document 01's table.
+// A refusal's number in document 01's table, for C: a variant that holds a place has no discriminant to cast.
 pub fn refusal_number(w: Refusal) -> u32
     ensures { result ≡ (numbered w).0 }
 {
@@ -227,24 +214,6 @@ pub fn refusal_place(w: Refusal) -> usize
 {
     match w {
         Refusal::BadMapping(place) => place,
-        Refusal::BadSpace => 0,
-        Refusal::BadTableLength => 0,
-        Refusal::ShortOperations => 0,
-        Refusal::BadCount => 0,
-        Refusal::Unaligned => 0,
-        Refusal::OutsideSpace => 0,
-        Refusal::Reserved => 0,
-        Refusal::BadObject => 0,
-        Refusal::BadOffset => 0,
-        Refusal::NoRoom => 0,
-        Refusal::BadRecordLength => 0,
-        Refusal::BadOp => 0,
-        Refusal::BadFlags => 0,
-        Refusal::BadWorkLength => 0,
-        Refusal::ShortOutput => 0,
-        Refusal::StaleWords => 0,
-        Refusal::BadRanges => 0,
-        Refusal::RangeOverlaps => 0,
-        Refusal::NoSuchRange => 0,
+        _ => 0,
     }
 }
