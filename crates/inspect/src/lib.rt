@@ -6,13 +6,13 @@ ghost use Rattle.std.specs.Prelude.{◌≡◌, ◌+◌, ◌*◌, ◌%◌, ◌≤
 ghost use Rattle.model.specs.Rows.{all, verdict};
 ghost use Rattle.model.specs.Rules.{page, limit, space_tests};
 ghost use Rattle.model.specs.Table.{mappings_in, bad_place, length_row, content_rows};
-ghost use Rattle.model.specs.Calls.{verdict_reply};
+ghost use Rattle.model.specs.Calls.{reply_of};
 ghost use Rattle.table.specs.Places.{lent, Valid};
 ghost use Rattle.inspect.specs.Joined.{Clean, Floor, Fits};
 ghost use Rattle.inspect.specs.Part.{up_to};
 ghost use Rattle.inspect.specs.Rows.{own_rows};
 
-use model::{Mapping, Refusal, Space, Verdict};
+use model::{Mapping, Refusal, Space};
 
 // Document 02: a table has room for 1 to so many mappings.
 const MOST_MAPPINGS: usize = 4096;
@@ -137,30 +137,30 @@ pub fn length_is_right(t: &[u64]) -> bool
 }
 
 // Rows 4, 5 and 17.
-pub fn contents_verdict(s: Space, t: &[u64], count: usize) -> Verdict
+pub fn contents_verdict(s: Space, t: &[u64], count: usize) -> Result<(), Refusal>
     requires { all (space_tests s) ≡ true }
-    ensures { verdict_reply result ≡ verdict (content_rows s (lent t.now count)) }
+    ensures { reply_of result ≡ verdict (content_rows s (lent t.now count)) }
 {
     if t.len() / 4 < count {
-        return Verdict::Refuse(Refusal::BadCount);
+        return Err(Refusal::BadCount);
     }
     let bad = bad_place(s, t, count);
     if bad != count {
-        return Verdict::Refuse(Refusal::BadMapping(bad));
+        return Err(Refusal::BadMapping(bad));
     }
     if !words::are_zero_from(t, 4 * count) {
-        return Verdict::Refuse(Refusal::StaleWords);
+        return Err(Refusal::StaleWords);
     }
-    Verdict::Pass
+    Ok(())
 }
 
 // The check of a table: rows 2, 4, 5 and 17.
-pub fn table_verdict(s: Space, t: &[u64], count: usize) -> Verdict
+pub fn table_verdict(s: Space, t: &[u64], count: usize) -> Result<(), Refusal>
     requires { all (space_tests s) ≡ true }
-    ensures { verdict_reply result ≡ verdict (own_rows s (lent t.now count)) }
+    ensures { reply_of result ≡ verdict (own_rows s (lent t.now count)) }
 {
     if !length_is_right(t) {
-        return Verdict::Refuse(Refusal::BadTableLength);
+        return Err(Refusal::BadTableLength);
     }
     contents_verdict(s, t, count)
 }

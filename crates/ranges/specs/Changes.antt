@@ -1,20 +1,20 @@
 -- A list with one range more or less, with the rows that refuse it.
 -- Assumes nothing.
-use Rattle.std.specs.Prelude.{List, [], ◌∷◌, ◌++◌, map, ℕ, ◌+◌, ◌/◌, ltb, length, take, drop}
+use Rattle.std.specs.Prelude.{List, [], ◌∷◌, ◌++◌, map, ℕ, ◌+◌, ◌/◌, ltb, length, take, drop, Result}
 use Rattle.model.specs.declared.Range.{Range}
-use Rattle.model.specs.declared.Verdict.{Verdict}
+use Rattle.model.specs.declared.Refusal.{Refusal}
 use Rattle.model.specs.Rows.{Row, row, Reply, refused, answered, verdict}
 use Rattle.model.specs.Rules.{apart}
 use Rattle.model.specs.Ranges.{RangeList, ranges, list_written, range_end, insert_range, listed, remove_range}
-use Rattle.model.specs.Calls.{verdict_reply}
+use Rattle.model.specs.Calls.{reply_of}
 
 -- what is answered, and every word of the list after it
 pub record ListOutcome : Type 0 where
   pub answer : Reply (Unit {0})
   pub words : List ℕ
 
-abbrev pub outcome_of : Verdict → List ℕ → ListOutcome
-outcome_of v ws = record { answer = verdict_reply v; words = ws }
+abbrev pub outcome_of : Result (Unit {0}) Refusal → List ℕ → ListOutcome
+outcome_of v ws = record { answer = reply_of v; words = ws }
 
 -- a refusal changes no word; else these ranges are written, and zeros behind them
 abbrev pub list_outcome : Reply (Unit {0}) → RangeList → List Range → ListOutcome

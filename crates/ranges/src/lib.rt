@@ -11,7 +11,7 @@ ghost use Rattle.ranges.specs.Lists.{lent_list, range_at, as_mapping, first_behi
 ghost use Rattle.ranges.specs.Changes.{outcome_of, overlap_row, put_in, taken_out, added, removed};
 ghost use Rattle.ranges.specs.Beside.{beside_off, beside};
 
-use model::{Mapping, Range, Refusal, Seen, Shown, Space, Verdict};
+use model::{Mapping, Range, Refusal, Seen, Shown, Space};
 use table::Search;
 
 // Document 02: a list is of even length up to so many words.
@@ -152,32 +152,32 @@ fn take_out(list: &mut [u64], count: usize, i: usize)
 }
 
 // One range more, in its place: refused where it shares a byte with one of the list, or the list is full.
-pub fn add(list: &mut [u64], count: usize, range: Range) -> Verdict
+pub fn add(list: &mut [u64], count: usize, range: Range) -> Result<(), Refusal>
     requires { ValidList list.old count × (0 < range.size) × (range_end range ≤ limit) }
     ensures { outcome_of result list.new ≡ added range (lent_list list.old count) }
 {
     let i = first_ending_behind(list, count, range.start);
     if !is_free(list, count, i, range) {
-        return Verdict::Refuse(Refusal::RangeOverlaps);
+        return Err(Refusal::RangeOverlaps);
     }
     if list.len() / 2 <= count {
-        return Verdict::Refuse(Refusal::NoRoom);
+        return Err(Refusal::NoRoom);
     }
     put_in(list, count, i, range);
-    Verdict::Pass
+    Ok(())
 }
 
 // One range less: refused where no range has exactly that start and size.
-pub fn remove(list: &mut [u64], count: usize, range: Range) -> Verdict
+pub fn remove(list: &mut [u64], count: usize, range: Range) -> Result<(), Refusal>
     requires { ValidList list.old count }
     ensures { outcome_of result list.new ≡ removed range (lent_list list.old count) }
 {
     let i = first_ending_behind(list, count, range.start);
     if !is_there(list, count, i, range) {
-        return Verdict::Refuse(Refusal::NoSuchRange);
+        return Err(Refusal::NoSuchRange);
     }
     take_out(list, count, i);
-    Verdict::Pass
+    Ok(())
 }
 
 // What is seen at `x` off all mappings, where these alone would let it go on for so many bytes: the first range that
