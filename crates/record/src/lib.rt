@@ -2,10 +2,10 @@
 #![tactic(auto)]
 
 ghost use Rattle.std.specs.Prelude.{◌≡◌, ◌+◌, ◌≤◌, length};
-ghost use Rattle.model.specs.Calls.{request_of, decode, decoded_reply};
+ghost use Rattle.model.specs.Calls.{request_of, decode, reply_of};
 ghost use Rattle.record.specs.Number.{NumberAt};
 
-use model::{Decoded, Refusal, Request, Verdict};
+use model::{Refusal, Request};
 
 pub const RECORD_BYTES: usize = 40;
 
@@ -59,16 +59,14 @@ pub fn fields(bytes: &[u8]) -> Request
     }
 }
 
-// Rows 12, 13 and 14, or the request, where a flag is served; 0 where none is.
-pub fn decode(bytes: &[u8], served: u64) -> Decoded
-    ensures { decoded_reply result ≡ decode served bytes.now }
+// Rows 12, 13 and 14, or the request, where flags are 0, or those that are served.
+pub fn decode(bytes: &[u8], served: u64) -> Result<Request, Refusal>
+    ensures { reply_of result ≡ decode served bytes.now }
 {
     if bytes.len() != RECORD_BYTES {
-        return Decoded::Refuse(Refusal::BadRecordLength);
+        return Err(Refusal::BadRecordLength);
     }
     let r = fields(bytes);
-    match rules::form_verdict(r, served) {
-        Verdict::Refuse(w) => Decoded::Refuse(w),
-        Verdict::Pass => Decoded::Record(r),
-    }
+    rules::form_verdict(r, served)?;
+    Ok(r)
 }

@@ -1,17 +1,18 @@
-use mathlib.Core.Path.{sym, ap, ◌∙◌}
-use Rattle.model.specs.Calls.{verdict_reply}
+use mathlib.Core.Path.{sym}
+use Rattle.std.proofs.lemmas.Result.{err_from_is_err_and}
 use Rattle.record.proofs.Decoding.{decode_other, decode-whole}
 use Rattle.record.proofs.decode.Goals as goal
 
 pub returns-then-bytes-ne-RECORD_BYTES : goal.returns-then-bytes-ne-RECORD_BYTES
 returns-then-bytes-ne-RECORD_BYTES c = let a = c.args in sym (decode_other a.served a.bytes.now c.if-bytes-ne-RECORD_BYTES.true)
 
-pub returns-in-Refuse : goal.returns-in-Refuse
-returns-in-Refuse c =
+pub returns-in_err-form_verdict : goal.returns-in_err-form_verdict
+returns-in_err-form_verdict c =
     let a = c.args in
-    sym (decode-whole a.served a.bytes.now c.if-bytes-ne-RECORD_BYTES.false c.fields-r.ensures (sym (ap verdict_reply c.in-Refuse.is) ∙ c.form_verdict.ensures))
+    let p = err_from_is_err_and c.from_residual.result c.from_residual.ensures.1 in
+    rw (p.1, p.2) (sym (decode-whole a.served a.bytes.now c.if-bytes-ne-RECORD_BYTES.false c.fields-r.ensures (c.in_err-form_verdict.ensures)))
 
-pub returns-in-Pass : goal.returns-in-Pass
-returns-in-Pass c =
+pub returns : goal.returns
+returns c =
     let a = c.args in
-    sym (decode-whole a.served a.bytes.now c.if-bytes-ne-RECORD_BYTES.false c.fields-r.ensures (sym (ap verdict_reply c.in-Pass.is) ∙ c.form_verdict.ensures))
+    sym (decode-whole a.served a.bytes.now c.if-bytes-ne-RECORD_BYTES.false c.fields-r.ensures (c.in_ok-form_verdict.ensures))
