@@ -1,3 +1,3 @@
-pub mod Decimals
-pub mod Puts
+pub mod Adding
+pub mod Digits
 pub mod Numbers

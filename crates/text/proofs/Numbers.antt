@@ -2,14 +2,16 @@
 -- Assumes nothing.
 use mathlib.Core.Path.{◌≡◌, refl, ap, ◌∙◌}
 use mathlib.Core.List.{List, [], ◌∷◌, ◌++◌, append_assoc, append-nil}
-use Prim.Native.Nat.{ℕ, ◌+◌, ◌*◌, ◌≤◌, ◌<◌}
+use Prim.Native.Nat.{ℕ, ◌+◌, ◌*◌, ◌^◌, ◌<◌}
 use native.Mathlib.Numerals.{add-one}
 use native.Mathlib.Omega.{arith}
 use lib.ListN.{length, get_or, take}
-use lib.Seq.{take-suc, take_all}
+use lib.Seq.{take-suc}
 use Rattle.program.specs.Text.{decimal, spaced}
-use Rattle.text.specs.Lines.{Put}
-use Rattle.text.proofs.Puts.{put_none, put_most, put-behind}
+use Rattle.text.specs.declared.Lines.{Lines}
+use Rattle.text.specs.Lines.{HasRoom, Adds}
+use Rattle.program.proofs.Decimal.{decimal_most}
+use Rattle.text.proofs.Adding.{adds_none, adds_most, adds_exact, adds_behind}
 
 spaced-append : (ms ns : List ℕ) → spaced (ms ++ ns) ≡ spaced ms ++ spaced ns
 unfolding spaced
@@ -23,18 +25,15 @@ spaced-one n = rw append-nil
 spaced-next : (ns : List ℕ) (j : ℕ) → j < length ns → spaced (take (j + 1) ns) ≡ spaced (take j ns) ++ (32 ∷ decimal (get_or ns j 0))
 spaced-next ns j h = rw (add-one j, take-suc ns j 0, spaced-append (take j ns) (get_or ns j 0 ∷ []), spaced-one)
 
--- the first j of some numbers, put
-abbrev pub NumbersTo : List ℕ → ℕ → List ℕ → ℕ → List ℕ → ℕ → Type 0
-NumbersTo b at ns j a end = Put b at (spaced (take j ns)) a end (21 * j)
+-- the first j of some numbers, written
+abbrev pub NumbersTo : Lines → List ℕ → ℕ → Lines → Type 0
+NumbersTo b ns j a = Adds b (spaced (take j ns)) (21 * j) a
 
-module _ (ns : List ℕ) {b : List ℕ} {at : ℕ} where
-  pub numbers_start : NumbersTo b at ns 0 b at
+module _ (ns : List ℕ) {b : Lines} where
+  pub numbers_start : NumbersTo b ns 0 b
   unfolding spaced
-  numbers_start = put_none
+  numbers_start = adds_none
 
-  pub numbers_next : (j : ℕ) {m a : List ℕ} {e end : ℕ} → j < length ns → at ≤ length b → NumbersTo b at ns j m e
-      → Put m e (32 ∷ decimal (get_or ns j 0)) a end 21 → NumbersTo b at ns (j + 1) a end
-  numbers_next j h l p q = rw (spaced-next ns j h) (put_most (omega arith) (put-behind l p q))
-
-  pub numbers_end : (j : ℕ) {a : List ℕ} {end : ℕ} → j ≡ length ns → NumbersTo b at ns j a end → Put b at (spaced ns) a end (21 * length ns)
-  numbers_end j h p = rw (take_all j ns (omega arith), h) at p
+  pub numbers_next : (j : ℕ) {l m a : Lines} {k : ℕ} → j < length ns → HasRoom b (21 * length ns) → get_or ns j 0 < 2 ^ 64 → NumbersTo b ns j l
+      → Adds l (32 ∷ []) 1 m → Adds m (decimal (get_or ns j 0)) k a → NumbersTo b ns (j + 1) a
+  numbers_next j h r f p q s = rw (spaced-next ns j h) (adds_most (omega (arith, decimal_most _ f)) (adds_behind (omega arith) p (adds_exact (adds_behind (omega arith) q s))))

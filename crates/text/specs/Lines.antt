@@ -1,4 +1,4 @@
--- Bytes written into a slice, and the lines as code has them: a word as bytes.
+-- Text written into a slice, and the lines as code has them: a word as bytes.
 -- Assumes nothing.
 use Rattle.std.specs.Prelude.{◌≡◌, Bool, List, [], ◌∷◌, ◌++◌, ℕ, ◌+◌, ◌≤◌, length}
 use Rattle.model.specs.declared.Mapping.{Mapping}
@@ -6,12 +6,19 @@ use Rattle.model.specs.Rows.{choose}
 use Rattle.model.specs.Table.{words_of}
 use Rattle.program.specs.Text.{spaced, phrase, line}
 use Rattle.words.specs.Words.{stored}
+use Rattle.text.specs.declared.Lines.{Lines}
 
--- the bytes `run` written over those of a slice from `at` on, at most so many; the place behind them
-pub record Put (before : List ℕ) (at : ℕ) (run after : List ℕ) (end most : ℕ) : Type 0 where
-  pub bytes : after ≡ stored before at run
-  pub behind : end ≡ at + length run
+-- there is room for so many bytes more
+abbrev pub HasRoom : Lines → ℕ → Type 0
+HasRoom l n = l.end + n ≤ length l.out.now
+
+-- the bytes `run`, at most so many, written behind those that stand
+pub record Adds (before : Lines) (run : List ℕ) (most : ℕ) (after : Lines) : Type 0 where
+  pub bytes : after.out.now ≡ stored before.out.now before.end run
+  pub behind : after.end ≡ before.end + length run
   pub within : length run ≤ most
+  pub same_length : length after.out.now ≡ length before.out.now
+  pub same_slice : after.out.ghost_name ≡ before.out.ghost_name
 
 -- the model's phrase and line, of a word's bytes
 abbrev pub phrase_of : List ℕ → List ℕ → List ℕ

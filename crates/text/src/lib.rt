@@ -1,12 +1,12 @@
-// The lines of the script program, written into a lent byte slice from a place on. Every byte is pinned: a promise gives the
-// slice as it is afterwards and the place behind the last byte written.
-#![tactic(auto)]
+// The lines of the script program, written into a lent byte slice one behind the other. Every byte is pinned: a promise gives
+// the slice as it is afterwards, and where the text in it ends.
+#![tactic(auto, using(crate::proofs::Adding::adds_none, crate::proofs::Adding::adds_most), unfolding(program::specs::Text::ascii))]
 
-ghost use Rattle.std.specs.Prelude.{[], ◌∷◌, ◌+◌, ◌*◌, ◌≤◌, length};
+ghost use Rattle.std.specs.Prelude.{◌≡◌, [], ◌∷◌, ◌+◌, ◌*◌, ◌≤◌, length};
 ghost use Rattle.model.specs.Table.{words_of};
 ghost use Rattle.program.specs.Text.{decimal, spaced, rest_lines, operation_lines, shown_line};
 ghost use Rattle.program.specs.Script.{lines, response_told};
-ghost use Rattle.text.specs.Lines.{Put, phrase_of, line_of, keep_of, bare_of};
+ghost use Rattle.text.specs.Lines.{HasRoom, Adds, phrase_of, line_of, keep_of, bare_of};
 
 use model::{Mapping, Operation, Rests, Shown};
 use program::Response;
@@ -14,162 +14,154 @@ use program::Response;
 // The lines of an operation have no more bytes than this; an answer's line has fewer.
 pub const MOST_OPERATION: usize = 320;
 
-// A run of bytes.
-pub fn put_bytes(out: &mut [u8], at: usize, run: &[u8]) -> usize
-    requires { at + length run.now ≤ length out.old }
-    ensures { Put out.old at run.now out.new result (length run.now) }
-{
-    let mut j: usize = 0;
-    while j < run.len() {
-        out[at + j] = run[j];
-        j += 1;
+// A lent slice, and where the text that has been written into it ends. It is no `fmt::Write`, since no clause of `write!` rules
+// an error out: `operation` and `response` can't fail.
+pub struct Lines<'a> {
+    pub out: &'a mut [u8],
+    pub end: usize,
+}
+
+impl<'a> Lines<'a> {
+    // No text yet.
+    pub fn new(out: &'a mut [u8]) -> Lines<'a>
+        ensures bytes { result.out.now ≡ out.old }
+        ensures end { result.end ≡ 0 }
+        ensures same_slice { result.out.ghost_name ≡ out.entry.ghost_name }
+    {
+        Lines { out, end: 0 }
     }
-    at + j
-}
 
-// A number's decimal digits: those of its tenth, and then the last one.
-fn put_decimal(out: &mut [u8], at: usize, n: u64) -> usize
-    requires { at + length (decimal n) ≤ length out.old }
-    ensures { Put out.old at (decimal n) out.new result (length (decimal n)) }
-{
-    if n < 10 {
-        out[at] = 48 + n as u8;
-        return at + 1;
+    // A run of bytes.
+    pub fn bytes(&mut self, run: &[u8])
+        requires { HasRoom self.old (length run.now) }
+        ensures { Adds self.old run.now (length run.now) self.new }
+    {
+        let end = self.end + run.len();
+        self.out[self.end..end].copy_from_slice(run);
+        self.end = end;
     }
-    let end = put_decimal(out, at, n / 10);
-    out[end] = 48 + (n % 10) as u8;
-    end + 1
-}
 
-// A space and a number.
-fn put_number(out: &mut [u8], at: usize, n: u64) -> usize
-    requires { at + 21 ≤ length out.old }
-    ensures { Put out.old at (32 ∷ decimal n) out.new result 21 }
-{
-    out[at] = b' ';
-    put_decimal(out, at + 1, n)
-}
-
-// Numbers, each behind a space.
-fn put_numbers(out: &mut [u8], at: usize, numbers: &[u64]) -> usize
-    requires { at + 21 * length numbers.now ≤ length out.old }
-    ensures { Put out.old at (spaced numbers.now) out.new result (21 * length numbers.now) }
-{
-    let mut end = at;
-    let mut j: usize = 0;
-    while j < numbers.len() {
-        end = put_number(out, end, numbers[j]);
-        j += 1;
+    // A number's decimal digits: those of its tenth, and then the last one.
+    fn decimal(&mut self, n: u64)
+        requires { HasRoom self.old (length (decimal n)) }
+        ensures { Adds self.old (decimal n) (length (decimal n)) self.new }
+    {
+        if 10 <= n {
+            self.decimal(n / 10);
+        }
+        self.bytes(&[b'0' + (n % 10) as u8]);
     }
-    end
-}
 
-// A word and numbers.
-fn put_phrase(out: &mut [u8], at: usize, word: &[u8], numbers: &[u64]) -> usize
-    requires { at + (length word.now + 21 * length numbers.now) ≤ length out.old }
-    ensures { Put out.old at (phrase_of word.now numbers.now) out.new result (length word.now + 21 * length numbers.now) }
-{
-    let behind = put_bytes(out, at, word);
-    put_numbers(out, behind, numbers)
-}
-
-// The same, and the line's end.
-fn put_line(out: &mut [u8], at: usize, word: &[u8], numbers: &[u64]) -> usize
-    requires { at + (length word.now + 21 * length numbers.now + 1) ≤ length out.old }
-    ensures { Put out.old at (line_of word.now numbers.now) out.new result (length word.now + 21 * length numbers.now + 1) }
-{
-    let end = put_phrase(out, at, word, numbers);
-    out[end] = b'\n';
-    end + 1
-}
-
-// A line with a mapping's four numbers.
-fn put_mapping(out: &mut [u8], at: usize, word: &[u8], m: Mapping) -> usize
-    requires { at + (length word.now + 85) ≤ length out.old }
-    ensures { Put out.old at (line_of word.now (words_of m)) out.new result (length word.now + 85) }
-{
-    put_line(out, at, word, &[m.address, m.size, m.object, m.offset])
-}
-
-// The same, and the keep mark.
-fn put_keep(out: &mut [u8], at: usize, word: &[u8], keep: bool, m: Mapping) -> usize
-    requires { at + (length word.now + 111) ≤ length out.old }
-    ensures { Put out.old at (keep_of word.now keep m) out.new result (length word.now + 111) }
-{
-    let behind = put_phrase(out, at, word, &[m.address, m.size, m.object, m.offset]);
-    put_line(out, behind, b" keep", &[rules::mark(keep)])
-}
-
-// A line for each rest.
-fn put_rests(out: &mut [u8], at: usize, rests: Rests) -> usize
-    requires { at + 180 ≤ length out.old }
-    ensures { Put out.old at (rest_lines rests) out.new result 180 }
-{
-    match rests {
-        Rests::Lower(lower) => put_mapping(out, at, b"lower", lower),
-        Rests::Upper(upper) => put_mapping(out, at, b"upper", upper),
-        Rests::Both(lower, upper) => {
-            let behind = put_mapping(out, at, b"lower", lower);
-            put_mapping(out, behind, b"upper", upper)
+    // Numbers, each behind a space.
+    fn numbers(&mut self, numbers: &[u64])
+        requires { HasRoom self.old (21 * length numbers.now) }
+        ensures { Adds self.old (spaced numbers.now) (21 * length numbers.now) self.new }
+    {
+        for n in numbers {
+            self.bytes(b" ");
+            self.decimal(*n);
         }
     }
-}
 
-// The lines of an operation.
-pub fn put_operation(out: &mut [u8], at: usize, operation: Operation) -> usize
-    requires { at + 320 ≤ length out.old }
-    ensures { Put out.old at (operation_lines operation) out.new result 320 }
-{
-    match operation {
-        Operation::Map(m) => put_mapping(out, at, b"map", m),
-        Operation::Remap(keep, m, rests) => {
-            let behind = put_keep(out, at, b"remap", keep, m);
-            put_rests(out, behind, rests)
-        }
-        Operation::Unmap(keep, m) => put_keep(out, at, b"unmap", keep, m),
+    // A word and numbers.
+    fn phrase(&mut self, word: &[u8], numbers: &[u64])
+        requires { HasRoom self.old (length word.now + 21 * length numbers.now) }
+        ensures { Adds self.old (phrase_of word.now numbers.now) (length word.now + 21 * length numbers.now) self.new }
+    {
+        self.bytes(word);
+        self.numbers(numbers);
     }
-}
 
-// The line of an address in no mapping: a word for what it shows there, and for how many bytes.
-fn put_bare(out: &mut [u8], at: usize, x: u64, word: &[u8], bytes: u64) -> usize
-    requires { at + (length word.now + 45) ≤ length out.old }
-    ensures { Put out.old at (bare_of x word.now bytes) out.new result (length word.now + 45) }
-{
-    let behind = put_phrase(out, at, b"at", &[x]);
-    put_line(out, behind, word, &[bytes])
-}
-
-// The line of an address, what it shows, and for how many bytes.
-fn put_shown(out: &mut [u8], at: usize, x: u64, shown: Shown, bytes: u64) -> usize
-    requires { at + 128 ≤ length out.old }
-    ensures { Put out.old at (shown_line x shown bytes) out.new result 128 }
-{
-    match shown {
-        Shown::Object(object, offset) => put_line(out, at, b"at", &[x, object, offset, bytes]),
-        Shown::Sparse => put_bare(out, at, x, b" sparse", bytes),
-        Shown::Nothing => put_bare(out, at, x, b" none", bytes),
+    // The same, and the line's end.
+    fn line(&mut self, word: &[u8], numbers: &[u64])
+        requires { HasRoom self.old (length word.now + 21 * length numbers.now + 1) }
+        ensures { Adds self.old (line_of word.now numbers.now) (length word.now + 21 * length numbers.now + 1) self.new }
+    {
+        self.phrase(word, numbers);
+        self.bytes(b"\n");
     }
-}
 
-// The line of a response, at a byte place of the script. A grant's operations are written one by one, by `put_operation`.
-pub fn put_response(out: &mut [u8], at: usize, place: u64, response: Response) -> usize
-    requires { at + 128 ≤ length out.old }
-    ensures { Put out.old at (lines place [] (response_told response)) out.new result 128 }
-{
-    match response {
-        Response::Emptied(capacity) => put_line(out, at, b"space", &[capacity as u64]),
-        Response::Granted(g) => {
-            put_line(out, at, b"granted", &[g.operations as u64, g.count as u64])
+    // A line with a mapping's four numbers.
+    fn mapping(&mut self, word: &[u8], m: Mapping)
+        requires { HasRoom self.old (length word.now + 85) }
+        ensures { Adds self.old (line_of word.now (words_of m)) (length word.now + 85) self.new }
+    {
+        self.line(word, &[m.address, m.size, m.object, m.offset]);
+    }
+
+    // The same, and the keep mark.
+    fn keep(&mut self, word: &[u8], keep: bool, m: Mapping)
+        requires { HasRoom self.old (length word.now + 111) }
+        ensures { Adds self.old (keep_of word.now keep m) (length word.now + 111) self.new }
+    {
+        self.phrase(word, &[m.address, m.size, m.object, m.offset]);
+        self.line(b" keep", &[u64::from(keep)]);
+    }
+
+    // A line for each rest.
+    fn rests(&mut self, rests: Rests)
+        requires { HasRoom self.old 180 }
+        ensures { Adds self.old (rest_lines rests) 180 self.new }
+    {
+        match rests {
+            Rests::Lower(lower) => self.mapping(b"lower", lower),
+            Rests::Upper(upper) => self.mapping(b"upper", upper),
+            Rests::Both(lower, upper) => {
+                self.mapping(b"lower", lower);
+                self.mapping(b"upper", upper);
+            }
         }
-        Response::Shows(x, seen) => {
-            let shown = seen.shown;
-            put_shown(out, at, x, shown, seen.bytes)
+    }
+
+    // The lines of an operation.
+    pub fn operation(&mut self, operation: Operation)
+        requires { HasRoom self.old 320 }
+        ensures { Adds self.old (operation_lines operation) 320 self.new }
+    {
+        match operation {
+            Operation::Map(m) => self.mapping(b"map", m),
+            Operation::Remap(keep, m, rests) => {
+                self.keep(b"remap", keep, m);
+                self.rests(rests);
+            }
+            Operation::Unmap(keep, m) => self.keep(b"unmap", keep, m),
         }
-        Response::Refused(w) => {
-            put_line(out, at, b"refused", &[rules::refusal_number(w) as u64])
+    }
+
+    // The line of an address in no mapping: a word for what it shows there, and for how many bytes.
+    fn bare(&mut self, x: u64, word: &[u8], bytes: u64)
+        requires { HasRoom self.old (length word.now + 45) }
+        ensures { Adds self.old (bare_of x word.now bytes) (length word.now + 45) self.new }
+    {
+        self.phrase(b"at", &[x]);
+        self.line(word, &[bytes]);
+    }
+
+    // The line of an address, what it shows, and for how many bytes.
+    fn shown(&mut self, x: u64, shown: Shown, bytes: u64)
+        requires { HasRoom self.old 128 }
+        ensures { Adds self.old (shown_line x shown bytes) 128 self.new }
+    {
+        match shown {
+            Shown::Object(object, offset) => self.line(b"at", &[x, object, offset, bytes]),
+            Shown::Sparse => self.bare(x, b" sparse", bytes),
+            Shown::Nothing => self.bare(x, b" none", bytes),
         }
-        Response::OtherMark => put_line(out, at, b"mark", &[place]),
-        Response::Cut => put_line(out, at, b"cut", &[place]),
-        Response::End => at,
+    }
+
+    // The line of a response, at a byte place of the script. A grant's operations are written one by one, by `operation`.
+    pub fn response(&mut self, place: u64, response: Response)
+        requires { HasRoom self.old 128 }
+        ensures { Adds self.old (lines place [] (response_told response)) 128 self.new }
+    {
+        match response {
+            Response::Emptied(capacity) => self.line(b"space", &[capacity as u64]),
+            Response::Granted(g) => self.line(b"granted", &[g.operations as u64, g.count as u64]),
+            Response::Shows(x, seen) => self.shown(x, seen.shown, seen.bytes),
+            Response::Refused(w) => self.line(b"refused", &[u64::from(rules::refusal_number(w))]),
+            Response::OtherMark => self.line(b"mark", &[place]),
+            Response::Cut => self.line(b"cut", &[place]),
+            Response::End => {}
+        }
     }
 }
