@@ -1,4 +1,2 @@
-pub mod Cases
-pub mod Signed
 pub mod Written
 pub mod Reading

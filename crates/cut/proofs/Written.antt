@@ -9,9 +9,8 @@ use Rattle.model.specs.declared.Mapping.{Mapping}
 use Rattle.model.specs.declared.Request.{Request}
 use Rattle.model.specs.declared.Operation.{Operation}
 use Rattle.model.specs.declared.Operation.TheVariants.{Map}
-use Rattle.model.specs.Cut.{mapping_of, new, operation_of}
+use Rattle.model.specs.Cut.{new, operation_of}
 use Rattle.model.specs.Layout.{words_of_operation}
-use Rattle.model.proofs.New.{new-map, new_unmap}
 use Rattle.model.proofs.Operations.{flat_map-append, operations-words}
 use Rattle.words.specs.Words.{stored}
 use Rattle.words.proofs.Stored.{stored_none, stored-behind}
@@ -66,12 +65,19 @@ length-operations r hs = length-append (hit_operations r hs) (map Map (new r)) �
 pub room_each : {r : Request} {ws : List ℕ} {lo hi n : ℕ} → Hits r ws lo hi n → 14 * (hi - lo) + 14 * length (new r) ≤ n
 room_each {r} {ws} {lo} {hi} {n} h = omega (arith, h.room, length-operations r (between ws lo hi), length-between ws lo hi)
 
-module _ (r : Request) (hs : List Mapping) (vs : List ℕ) {us : List ℕ} (g : us ≡ stored vs 0 (flat_map words_of_operation (hit_operations r hs))) where
-  pub unmap_written : (r.op ≡ 0 → ⊥) → us ≡ stored vs 0 (flat_map words_of_operation (operations_for r hs))
-  unfolding operations_for
-  unmap_written e = g ∙ simp (new_unmap r e, append-nil)
+pub room_with : {r : Request} {ws : List ℕ} {lo hi n : ℕ} {m : Mapping} → Hits r ws lo hi n → m ∷ [] ≡ new r → 14 * (hi - lo) + 14 ≤ n
+room_with h e = omega (arith, room_each h, ap length e)
 
-  pub map-written : {n : ℕ} {ts : List ℕ} → length hs ≡ n → r.op ≡ 0 → ts ≡ stored us (14 * n) (words_of_operation (Map (mapping_of r)))
-      → ts ≡ stored vs 0 (flat_map words_of_operation (operations_for r hs))
+module _ (r : Request) (ws : List ℕ) (lo hi : ℕ) (vs : List ℕ) {us : List ℕ} where
+  pub none_behind : [] ≡ new r → us ≡ stored vs 0 (flat_map words_of_operation (hit_operations r (between ws lo hi)))
+      → us ≡ stored vs 0 (flat_map words_of_operation (operations_for r (between ws lo hi)))
   unfolding operations_for
-  map-written l e q = q ∙ rw (g, ← l, ← length-hits r hs, new-map r e) (words-next vs (hit_operations r hs) (Map (mapping_of r)))
+  none_behind e g = rw (← e, append-nil) g
+
+  pub new-behind : {m : Mapping} {ts : List ℕ} → m ∷ [] ≡ new r → us ≡ stored vs 0 (flat_map words_of_operation (hit_operations r (between ws lo hi)))
+      → ts ≡ stored us (14 * (hi - lo)) (words_of_operation (Map m)) → ts ≡ stored vs 0 (flat_map words_of_operation (operations_for r (between ws lo hi)))
+  unfolding operations_for
+  new-behind {m} e g q =
+      let hs = between ws lo hi in
+      let l : hi - lo ≡ length (hit_operations r hs) = sym (length-hits r hs ∙ length-between ws lo hi) in
+      q ∙ rw (g, l, ← e) (words-next vs (hit_operations r hs) (Map m))

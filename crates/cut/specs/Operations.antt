@@ -1,6 +1,6 @@
 -- The operations of mappings that are hit, and what the code that writes them asks for.
 -- Assumes nothing.
-use Rattle.std.specs.Prelude.{List, ◌∷◌, ◌++◌, map, ℕ, ◌+◌, ◌*◌, ◌≤◌, ◌<◌, length}
+use Rattle.std.specs.Prelude.{List, ◌++◌, map, ℕ, ◌+◌, ◌*◌, ◌≤◌, ◌<◌, eqb, length, Option, Some, None}
 use Rattle.model.specs.declared.Mapping.{Mapping}
 use Rattle.model.specs.declared.Request.{Request}
 use Rattle.model.specs.declared.Rests.{Rests}
@@ -8,7 +8,8 @@ use Rattle.model.specs.declared.Rests.TheVariants.{Lower, Upper, Both}
 use Rattle.model.specs.declared.Operation.{Operation}
 use Rattle.model.specs.declared.Operation.TheVariants.{Map}
 use Rattle.model.specs.Rules.{limit, end, stop}
-use Rattle.model.specs.Table.{words_of}
+use Rattle.model.specs.Rows.{choose}
+use Rattle.model.specs.Layout.{is_absent}
 use Rattle.model.specs.Cut.{new, operation_of}
 use Rattle.table.specs.Places.{mapping_at, between, Valid}
 
@@ -28,23 +29,28 @@ pub record Cuttable (r : Request) (m : Mapping) : Type 0 where
 abbrev pub Bounded : Mapping → Type 0
 Bounded m = (m.address ≤ limit) × (m.offset ≤ limit)
 
--- an absent rest as a mapping
+-- a part of a mapping, unless nothing is left of it; and a rest, unless its words are zeros
+abbrev pub some_left : Mapping → Option Mapping
+some_left m = choose (eqb m.size 0) None (Some m)
+
+abbrev pub rest_in : Mapping → Option Mapping
+rest_in m = choose (is_absent m) None (Some m)
+
+-- the rests, if there are any
+abbrev pub rests_for : Option Mapping → Option Mapping → Option Rests
+rests_for None None = None
+rests_for (Some l) None = Some (Lower l)
+rests_for None (Some u) = Some (Upper u)
+rests_for (Some l) (Some u) = Some (Both l u)
+
+-- the other way: an absent rest as a mapping, the lower rest and the upper one
 abbrev pub absent_rest : Mapping
 absent_rest = record { address = 0; size = 0; object = 0; offset = 0 }
 
-abbrev pub lower_of : Rests → Mapping
-lower_of (Lower l) = l
-lower_of (Upper u) = absent_rest
-lower_of (Both l u) = l
-
-abbrev pub upper_of : Rests → Mapping
-upper_of (Lower l) = absent_rest
-upper_of (Upper u) = u
-upper_of (Both l u) = u
-
--- an operation's words, by its parts
-abbrev pub parts : ℕ → ℕ → Mapping → Mapping → Mapping → List ℕ
-parts kind keep old lower upper = kind ∷ keep ∷ (words_of old ++ (words_of lower ++ words_of upper))
+abbrev pub both_parts : Rests → Mapping × Mapping
+both_parts (Lower l) = (l, absent_rest)
+both_parts (Upper u) = (absent_rest, u)
+both_parts (Both l u) = (l, u)
 
 -- the operations of these mappings, all hit; and of a request that hits them
 unfoldable pub hit_operations : Request → List Mapping → List Operation

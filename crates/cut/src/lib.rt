@@ -3,19 +3,20 @@
 #![tactic(auto)]
 
 ghost use Rattle.std.specs.Prelude.{◌≡◌, ◌+◌, ◌-◌, ◌*◌, ◌^◌, ◌≤◌, ◌<◌, leb, length};
-ghost use Rattle.std.proofs.Math.Option.{none};
+ghost use Rattle.std.specs.Option.{option_to_list};
 ghost use mathlib.Core.List.{flat_map};
 ghost use Rattle.model.specs.Rows.{all};
 ghost use Rattle.model.specs.Rules.{limit, stop};
 ghost use Rattle.model.specs.Cut.{lower_part, upper_part, mapping_of, new, displacement, agree_tests, keep_mark, operation_of};
-ghost use Rattle.model.specs.Layout.{words_of_operation, is_absent, rests_in, operation_by, operation_in, listed_operation};
+ghost use Rattle.model.specs.Table.{mapping_from};
+ghost use Rattle.model.specs.Layout.{words_of_operation, operation_by, operation_in};
 ghost use Rattle.words.specs.Words.{stored};
 ghost use Rattle.table.specs.Places.{between};
-ghost use Rattle.cut.specs.Operations.{Cuttable, Bounded, parts, lower_of, upper_of, absent_rest, hit_operations, operations_for, Hits};
+ghost use Rattle.cut.specs.Operations.{Cuttable, Bounded, some_left, rest_in, rests_for, both_parts, hit_operations, operations_for, Hits};
 
-use model::{Listed, Mapping, Operation, Request, Rests};
+use model::{Mapping, Operation, Request, Rests};
 
-// The words of an operation, and its kinds.
+// The words of an operation, and its kinds, as the layout numbers them.
 pub const OPERATION_WORDS: usize = 14;
 
 const MAP: u64 = 0;
@@ -24,7 +25,16 @@ const REMAP: u64 = 1;
 
 const UNMAP: u64 = 2;
 
+// An absent rest.
+const ABSENT: Mapping = Mapping {
+    address: 0,
+    size: 0,
+    object: 0,
+    offset: 0,
+};
+
 // Row 3: so many words have room for one operation more than a table has mappings at most.
+#[tactic(auto, using(std::proofs::lemmas::Bool::Decides::nat_tests))]
 pub fn operations_fit(words: usize, capacity: usize) -> bool
     ensures { result ≡ leb ((capacity + 1) * 14) words }
 {
@@ -43,14 +53,23 @@ pub fn new_mapping(r: Request) -> Mapping
     }
 }
 
+// The new mapping of a request: a map has one, which it asks for.
+pub fn new(r: Request) -> Option<Mapping>
+    ensures { option_to_list result ≡ new r }
+{
+    if r.op == 0 {
+        Some(new_mapping(r))
+    } else {
+        None
+    }
+}
+
 // Document 02: displacement, the offset less the address, which may be below zero.
 fn displacement(m: Mapping) -> i64
     requires { Bounded m }
     ensures { result ≡ displacement m }
 {
-    let offset = m.offset as i64;
-    let address = m.address as i64;
-    offset - address
+    m.offset as i64 - m.address as i64
 }
 
 // The same object and displacement.
@@ -58,9 +77,7 @@ fn agree(m: Mapping, n: Mapping) -> bool
     requires { Bounded m × Bounded n }
     ensures { result ≡ all (agree_tests m n) }
 {
-    let one = displacement(m);
-    let other = displacement(n);
-    (m.object == n.object) & (one == other)
+    (m.object == n.object) & (displacement(m) == displacement(n))
 }
 
 // Document 02: keep.
@@ -68,16 +85,10 @@ fn keep_mark(r: Request, m: Mapping) -> bool
     requires { Bounded m × Bounded (mapping_of r) }
     ensures { result ≡ keep_mark r m }
 {
-    let asked = new_mapping(r);
-    let same = agree(m, asked);
-    (r.op == 0) & same
-}
-
-// How far `to` lies behind `from`; 0 where it does not.
-fn distance(from: u64, to: u64) -> u64
-    ensures { result ≡ to - from }
-{
-    if from < to { to - from } else { 0 }
+    match new(r) {
+        Some(asked) => agree(m, asked),
+        None => false,
+    }
 }
 
 // The last byte of the requested range.
@@ -94,10 +105,8 @@ pub fn lower_part(r: Request, m: Mapping) -> Mapping
     ensures { result ≡ lower_part r.address m }
 {
     Mapping {
-        address: m.address,
-        size: distance(m.address, r.address),
-        object: m.object,
-        offset: m.offset,
+        size: r.address.saturating_sub(m.address),
+        ..m
     }
 }
 
@@ -110,9 +119,28 @@ pub fn upper_part(r: Request, m: Mapping) -> Mapping
     let from = last_byte(r) + 1;
     Mapping {
         address: from,
-        size: distance(from, m.address + m.size),
+        size: (m.address + m.size).saturating_sub(from),
         object: m.object,
         offset: m.offset + (from - m.address),
+    }
+}
+
+// A part of a mapping, unless nothing is left.
+fn some_left(part: Mapping) -> Option<Mapping>
+    ensures { result ≡ some_left part }
+{
+    (part.size != 0).then_some(part)
+}
+
+// The rests of a mapping, if there are any.
+fn rests(lower: Option<Mapping>, upper: Option<Mapping>) -> Option<Rests>
+    ensures { result ≡ rests_for lower upper }
+{
+    match (lower, upper) {
+        (None, None) => None,
+        (Some(l), None) => Some(Rests::Lower(l)),
+        (None, Some(u)) => Some(Rests::Upper(u)),
+        (Some(l), Some(u)) => Some(Rests::Both(l, u)),
     }
 }
 
@@ -122,68 +150,35 @@ fn operation_of(r: Request, m: Mapping) -> Operation
     ensures { result ≡ operation_of r m }
 {
     let keep = keep_mark(r, m);
-    let lower = lower_part(r, m);
-    let upper = upper_part(r, m);
-    if lower.size == 0 {
-        if upper.size == 0 {
-            return Operation::Unmap(keep, m);
-        }
-        return Operation::Remap(keep, m, Rests::Upper(upper));
-    }
-    if upper.size == 0 {
-        return Operation::Remap(keep, m, Rests::Lower(lower));
-    }
-    Operation::Remap(keep, m, Rests::Both(lower, upper))
-}
-
-// An absent rest.
-fn absent() -> Mapping
-    ensures { result ≡ absent_rest }
-{
-    Mapping {
-        address: 0,
-        size: 0,
-        object: 0,
-        offset: 0,
+    match rests(some_left(lower_part(r, m)), some_left(upper_part(r, m))) {
+        None => Operation::Unmap(keep, m),
+        Some(rests) => Operation::Remap(keep, m, rests),
     }
 }
 
-fn lower_of(rests: Rests) -> Mapping
-    ensures { result ≡ lower_of rests }
+// The rests of a remap, lower and upper.
+fn both_parts(rests: Rests) -> (Mapping, Mapping)
+    ensures { result ≡ both_parts rests }
 {
     match rests {
-        Rests::Lower(l) => l,
-        Rests::Upper(_) => absent(),
-        Rests::Both(l, _) => l,
+        Rests::Lower(l) => (l, ABSENT),
+        Rests::Upper(u) => (ABSENT, u),
+        Rests::Both(l, u) => (l, u),
     }
 }
 
-fn upper_of(rests: Rests) -> Mapping
-    ensures { result ≡ upper_of rests }
+// An operation in words: kind, keep, the old mapping (a map's new one), the lower rest, the upper rest.
+fn words_of(operation: Operation) -> [u64; OPERATION_WORDS]
+    ensures { result ≡ words_of_operation operation }
 {
-    match rests {
-        Rests::Lower(_) => absent(),
-        Rests::Upper(u) => u,
-        Rests::Both(_, u) => u,
-    }
-}
-
-// Writes the fourteen words of an operation with these parts from word `at` on.
-fn write_parts(
-    operations: &mut [u64],
-    at: usize,
-    kind: u64,
-    keep: u64,
-    old: Mapping,
-    lower: Mapping,
-    upper: Mapping,
-)
-    requires { at + 14 ≤ length operations.old }
-    ensures { operations.new ≡ stored operations.old at (parts kind keep old lower upper) }
-{
-    let words = [
+    let (kind, keep, old, (lower, upper)) = match operation {
+        Operation::Map(m) => (MAP, false, m, (ABSENT, ABSENT)),
+        Operation::Remap(keep, m, rests) => (REMAP, keep, m, both_parts(rests)),
+        Operation::Unmap(keep, m) => (UNMAP, keep, m, (ABSENT, ABSENT)),
+    };
+    [
         kind,
-        keep,
+        u64::from(keep),
         old.address,
         old.size,
         old.object,
@@ -196,8 +191,7 @@ fn write_parts(
         upper.size,
         upper.object,
         upper.offset,
-    ];
-    words::store(operations, at, &words)
+    ]
 }
 
 // Writes an operation's words from word `at` on.
@@ -205,84 +199,42 @@ fn write_operation(operations: &mut [u64], at: usize, operation: Operation)
     requires { at + 14 ≤ length operations.old }
     ensures { operations.new ≡ stored operations.old at (words_of_operation operation) }
 {
-    match operation {
-        Operation::Map(m) => write_parts(operations, at, MAP, 0, m, absent(), absent()),
-        Operation::Remap(keep, m, rests) => write_parts(
-            operations,
-            at,
-            REMAP,
-            rules::mark(keep),
-            m,
-            lower_of(rests),
-            upper_of(rests),
-        ),
-        Operation::Unmap(keep, m) => {
-            write_parts(
-                operations,
-                at,
-                UNMAP,
-                rules::mark(keep),
-                m,
-                absent(),
-                absent(),
-            )
-        }
-    }
+    words::store(operations, at, &words_of(operation))
 }
 
-// A rest of four zeros.
-fn is_absent(m: Mapping) -> bool
-    ensures { result ≡ is_absent m }
+// The rest in the four words from word `at` on; four zeros are none.
+fn rest_from(words: &[u64], at: usize) -> Option<Mapping>
+    requires { at + 4 ≤ length words.now }
+    ensures { result ≡ rest_in (mapping_from at words.now) }
 {
-    (m.address == 0) & (m.size == 0) & (m.object == 0) & (m.offset == 0)
+    let rest = table::mapping_from(words, at);
+    (rest != Mapping::default()).then_some(rest)
 }
 
-// A remap has a rest.
-fn read_remap(keep: bool, old: Mapping, lower: Mapping, upper: Mapping) -> Listed
-    ensures { listed_operation result ≡ operation_by 1 keep old (rests_in lower upper) }
+// By the kind: a map and an unmap have no rests, a remap has some; another kind is no operation.
+fn operation_by(kind: u64, keep: bool, mapping: Mapping, rests: Option<Rests>) -> Option<Operation>
+    ensures { result ≡ operation_by kind keep mapping rests }
 {
-    if is_absent(lower) {
-        if is_absent(upper) {
-            return Listed::Unknown;
-        }
-        return Listed::Known(Operation::Remap(keep, old, Rests::Upper(upper)));
+    match (kind, rests) {
+        (MAP, None) => Some(Operation::Map(mapping)),
+        (REMAP, Some(rests)) => Some(Operation::Remap(keep, mapping, rests)),
+        (UNMAP, None) => Some(Operation::Unmap(keep, mapping)),
+        _ => None,
     }
-    if is_absent(upper) {
-        return Listed::Known(Operation::Remap(keep, old, Rests::Lower(lower)));
-    }
-    Listed::Known(Operation::Remap(keep, old, Rests::Both(lower, upper)))
-}
-
-// A map and an unmap have none, and there is no other kind.
-fn read_whole(kind: u64, keep: bool, mapping: Mapping) -> Listed
-    ensures { listed_operation result ≡ operation_by kind keep mapping none }
-{
-    if kind == MAP {
-        return Listed::Known(Operation::Map(mapping));
-    }
-    if kind == UNMAP {
-        return Listed::Known(Operation::Unmap(keep, mapping));
-    }
-    Listed::Unknown
 }
 
 // The operation that the first fourteen words say.
-pub fn read_operation(words: &[u64]) -> Listed
+pub fn read_operation(words: &[u64]) -> Option<Operation>
     requires { 14 ≤ length words.now }
-    ensures { listed_operation result ≡ operation_in words.now }
+    ensures { result ≡ operation_in words.now }
 {
-    let kind = words[0];
-    let keep = words[1] == 1;
-    let mapping = table::mapping_from(words, 2);
-    let lower = table::mapping_from(words, 6);
-    let upper = table::mapping_from(words, 10);
-    if kind == REMAP {
-        return read_remap(keep, mapping, lower, upper);
-    }
-    if is_absent(lower) & is_absent(upper) {
-        return read_whole(kind, keep, mapping);
-    }
-    Listed::Unknown
+    let rests = rests(rest_from(words, 6), rest_from(words, 10));
+    operation_by(
+        words[0],
+        words[1] == 1,
+        table::mapping_from(words, 2),
+        rests,
+    )
 }
 
 // Writes the operations of the mappings from place `lo` up to `hi`, from the first word on.
@@ -290,11 +242,9 @@ fn write_hits(operations: &mut [u64], t: &[u64], r: Request, lo: usize, hi: usiz
     requires { Hits r t.now lo hi (length operations.old) }
     ensures { operations.new ≡ stored operations.old 0 (flat_map words_of_operation (hit_operations r (between t.now lo hi))) }
 {
-    let mut i = lo;
-    while i < hi {
+    for i in lo..hi {
         let operation = operation_of(r, table::read_mapping(t, i));
         write_operation(operations, OPERATION_WORDS * (i - lo), operation);
-        i += 1;
     }
 }
 
@@ -303,10 +253,7 @@ pub fn operations_number(r: Request, lo: usize, hi: usize) -> usize
     requires { (lo ≤ hi) × (hi < 2 ^ 63) }
     ensures { result ≡ hi - lo + length (new r) }
 {
-    if r.op != 0 {
-        return hi - lo;
-    }
-    hi - lo + 1
+    hi - lo + usize::from(new(r).is_some())
 }
 
 // Writes them, from the first word on, a map's own behind the others.
@@ -315,12 +262,7 @@ pub fn write_operations(operations: &mut [u64], t: &[u64], r: Request, lo: usize
     ensures { operations.new ≡ stored operations.old 0 (flat_map words_of_operation (operations_for r (between t.now lo hi))) }
 {
     write_hits(operations, t, r, lo, hi);
-    if r.op != 0 {
-        return;
+    if let Some(m) = new(r) {
+        write_operation(operations, OPERATION_WORDS * (hi - lo), Operation::Map(m));
     }
-    write_operation(
-        operations,
-        OPERATION_WORDS * (hi - lo),
-        Operation::Map(new_mapping(r)),
-    )
 }

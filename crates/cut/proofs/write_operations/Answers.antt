@@ -1,26 +1,12 @@
 use native.Mathlib.Omega.{arith}
-use mathlib.Core.Path.{ap}
-use lib.ListN.{length}
-use Rattle.table.specs.Places.{between}
-use Rattle.table.proofs.Between.{length-between}
-use Rattle.model.proofs.New.{new-map}
-use Rattle.cut.proofs.Written.{room_each, unmap_written, map-written}
+use Rattle.cut.proofs.Written.{room_with, none_behind, new-behind}
 use Rattle.cut.proofs.write_operations.Goals as goal
 
-pub write_hits-requires : goal.write_hits-requires
-write_hits-requires c = c.requires
-
-pub returns-then-r-ne0 : goal.returns-then-r-ne0
-returns-then-r-ne0 c =
-    let a = c.args in
-    unmap_written a.r (between a.t.now a.lo a.hi) a.operations.now c.write_hits.ensures c.if-r-ne0.true
-
 pub write_operation-requires : goal.write_operation-requires
-write_operation-requires c =
-    omega (arith, room_each c.requires, ap length (new-map c.args.r c.if-r-ne0.false))
+write_operation-requires c = let pre = c.requires in omega (arith, room_with pre c.in-Some.ensures)
 
-pub returns : goal.returns
-returns c =
-    let a = c.args in
-    map-written a.r (between a.t.now a.lo a.hi) a.operations.now c.write_hits.ensures (length-between a.t.now a.lo a.hi) c.if-r-ne0.false
-    (rw c.new_mapping.ensures at c.write_operation.ensures)
+pub returns-in-Some : goal.returns-in-Some
+returns-in-Some c = new-behind c.args.r c.args.t.now c.args.lo c.args.hi c.args.operations.now c.in-Some.ensures c.write_hits.ensures c.write_operation.ensures
+
+pub returns-in_default : goal.returns-in_default
+returns-in_default c = none_behind c.args.r c.args.t.now c.args.lo c.args.hi c.args.operations.now c.in_default.ensures c.write_hits.ensures
