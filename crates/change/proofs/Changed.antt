@@ -78,7 +78,7 @@ module _ {r : Request} {ws : List ℕ} {lo hi : ℕ} (p : Placed r ws lo hi) (os
   pub carried_out : {k : ℕ} {us vs : List ℕ} → count ≤ length ws / 4 → k ≡ hi - lo + length (mapped r) → 14 * k ≤ length os
       → us ≡ stored os 0 (flat_map words_of_operation (operations_for r (between ws lo hi)))
       → vs ≡ written (length ws) (spliced (mappings_in n ws) lo hi new)
-      → changed r (lent ws n) os ≡ record { reply = answered (k, count); table = vs; operations = us }
+      → changed r (lent ws n) os ≡ record { reply = answered (record { operations = k; count = count }); table = vs; operations = us }
   unfolding changed decide
   carried_out {k} {us} {vs} h f m wrote table =
       let w : leb (14 * length (operations r (mappings_in n ws))) (length os) ≡ true =

@@ -9,8 +9,7 @@ use Rattle.model.specs.Table.{Table, capacity, mappings, mappings_in, written}
 use Rattle.model.specs.Cut.{after, operations}
 use Rattle.model.specs.Layout.{words_of_operation}
 use Rattle.words.specs.Words.{ZeroFrom}
-use Rattle.change.specs.declared.ChangeAnswer.{ChangeAnswer}
-use Rattle.change.specs.declared.ChangeAnswer.TheVariants.{Made, NoRoom, ShortOutput}
+use Rattle.change.specs.declared.Made.{Made}
 use Rattle.table.specs.Places.{first_where, starts_behind, ends_behind, Valid}
 
 -- a request in order on a table that passed its check, with zeros behind its last mapping
@@ -37,11 +36,11 @@ pub record Placed (r : Request) (ws : List ℕ) (lo hi : ℕ) : Type 0 where
 
 -- what a request does to a table: how many operations and mappings, or a refusal; and the words left
 pub record Changed : Type 0 where
-  pub reply : Reply (ℕ × ℕ)
+  pub reply : Reply Made
   pub table : List ℕ
   pub operations : List ℕ
 
-abbrev pub changed_for : Reply (ℕ × ℕ) → Request → Table → List ℕ → Changed
+abbrev pub changed_for : Reply Made → Request → Table → List ℕ → Changed
 changed_for (refused n p) r t os = record { reply = refused n p; table = t.words; operations = os }
 changed_for (answered g) r t os = record {
   reply = answered g;
@@ -50,8 +49,8 @@ changed_for (answered g) r t os = record {
 }
 
 -- the numbers of operations and of mappings afterwards
-abbrev pub made : Request → Table → ℕ × ℕ
-made r t = (length (operations r (mappings t)), length (after r (mappings t)))
+abbrev pub made : Request → Table → Made
+made r t = record { operations = length (operations r (mappings t)); count = length (after r (mappings t)) }
 
 -- 11: the table has no room for the mappings afterwards; 16: the words lent have none for the operations
 abbrev pub room_rows : Request → Table → ℕ → List Row
@@ -61,8 +60,3 @@ room_rows r t n =
 -- these alone decide
 unfoldable pub changed : Request → Table → List ℕ → Changed
 changed r t os = changed_for (decide (room_rows r t (length os)) (made r t)) r t os
-
-abbrev pub change_reply : ChangeAnswer → Reply (ℕ × ℕ)
-change_reply (Made n count) = answered (n, count)
-change_reply NoRoom = refused 11 0
-change_reply ShortOutput = refused 16 0

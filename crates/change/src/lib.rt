@@ -6,42 +6,30 @@ ghost use Rattle.std.specs.Prelude.{◌≡◌, [], ◌<◌};
 ghost use Rattle.model.specs.Cut.{prepend, new, after};
 ghost use Rattle.table.specs.Places.{lent, between};
 ghost use Rattle.table.specs.Splice.{mappings_of};
-ghost use Rattle.change.specs.Change.{change_reply, Ready, FirstBehind, Placed, changed};
+ghost use Rattle.model.specs.Calls.{reply_of};
+ghost use Rattle.change.specs.Change.{Ready, FirstBehind, Placed, changed};
 
-use model::{Mapping, Request};
+use model::{Mapping, Refusal, Request};
 use table::Replacement;
 
-// What carrying out a request came to: so many operations and so many mappings afterwards; or no room in the table, or too
-// few words for its operations, and nothing has changed.
+// What carrying out a request made: so many operations, and a table of so many mappings.
 #[derive(Clone, Copy)]
-pub enum ChangeAnswer {
-    Made(usize, usize),
-    NoRoom,
-    ShortOutput,
+pub struct Made {
+    pub operations: usize,
+    pub count: usize,
 }
 
-// No mapping.
-fn none() -> Mapping
-    ensures { result.size ≡ 0 }
-{
-    Mapping {
-        address: 0,
-        size: 0,
-        object: 0,
-        offset: 0,
-    }
-}
-
-// The mapping that a map asks for; of an unmap none. Only the size tells, so that the other words need no conditional move.
+// The new mapping of a request; of an unmap one of size 0, which is none. Only the size tells, so that the other words need no conditional move.
 fn new_or_none(r: Request) -> Mapping
     requires { 0 < r.size }
     ensures { prepend result [] ≡ new r }
 {
-    Mapping {
-        address: r.address,
-        size: if r.op == 0 { r.size } else { 0 },
-        object: r.object,
-        offset: r.offset,
+    match cut::new(r) {
+        Some(m) => m,
+        None => Mapping {
+            size: 0,
+            ..cut::new_mapping(r)
+        },
     }
 }
 
@@ -54,44 +42,47 @@ fn replacement(r: Request, t: &[u64], lo: usize, hi: usize) -> Replacement
     let new = new_or_none(r);
     if lo == hi {
         return Replacement {
-            lower: none(),
-            new: new,
-            upper: none(),
+            lower: Mapping::default(),
+            new,
+            upper: Mapping::default(),
         };
     }
     let first = table::read_mapping(t, lo);
     let last = table::read_mapping(t, hi - 1);
     Replacement {
         lower: cut::lower_part(r, first),
-        new: new,
+        new,
         upper: cut::upper_part(r, last),
     }
 }
 
-// The request carried out, unless there is no room: its operations from the first word on, and the table in its place. The
-// first mapping that ends behind its address is at place `lo`.
+// The request carried out: its operations from the first word on, and the table in its place. The first mapping that ends
+// behind its address is at place `lo`. Where the table or the words for its operations have no room, nothing has changed.
 pub fn change(
     r: Request,
     t: &mut [u64],
     count: usize,
     operations: &mut [u64],
     lo: usize,
-) -> ChangeAnswer
+) -> Result<Made, Refusal>
     requires { Ready r (lent t.old count) × FirstBehind r.address (lent t.old count) lo }
-    ensures { changed r (lent t.old count) operations.old ≡ record { reply = change_reply result; table = t.new; operations = operations.new } }
+    ensures { changed r (lent t.old count) operations.old ≡ record { reply = reply_of result; table = t.new; operations = operations.new } }
 {
     let hi = table::first_starting_behind(t, lo, count, cut::last_byte(r));
     let new = replacement(r, t, lo, hi);
     let after = lo + table::replacement_length(new) + (count - hi);
     let is_full = t.len() / 4 < after;
     if is_full {
-        return ChangeAnswer::NoRoom;
+        return Err(Refusal::NoRoom);
     }
     let number = cut::operations_number(r, lo, hi);
     if operations.len() < cut::OPERATION_WORDS * number {
-        return ChangeAnswer::ShortOutput;
+        return Err(Refusal::ShortOutput);
     }
     cut::write_operations(operations, t, r, lo, hi);
     table::splice(t, count, lo, hi, new);
-    ChangeAnswer::Made(number, after)
+    Ok(Made {
+        operations: number,
+        count: after,
+    })
 }

@@ -23,15 +23,16 @@ use Rattle.model.proofs.Ranges.{listed_says, length-ranges}
 use Rattle.model.proofs.Relisted.{insert-length, remove_length}
 use Rattle.table.specs.Places.{free_tests}
 use Rattle.ranges.specs.Changes.{ListOutcome, overlap_row, full_row, added, removed}
+use Rattle.change.specs.declared.Made.{Made}
 use Rattle.change.specs.Change.{Changed, changed_for, made, room_rows, changed}
 use Rattle.request.specs.Bound.{decided, cutting}
 
 -- ── without the flag ──
 
 -- a change of the table, with the list beside it
-abbrev pub with_list : Reply (ℕ × ℕ) → ℕ → Reply Grant
+abbrev pub with_list : Reply Made → ℕ → Reply Grant
 with_list (refused n p) k = refused n p
-with_list (answered g) k = answered (record { operations = g.0; count = g.1; ranges = k })
+with_list (answered g) k = answered (record { operations = g.operations; count = g.count; ranges = k })
 
 abbrev pub beside_list : Lent → Changed → Outcome
 beside_list l c = record { answer = with_list c.reply l.ranges.count; table = c.table; ranges = l.ranges.words; operations = c.operations }
@@ -49,7 +50,7 @@ list_beside r l os (w ∷ ws) = go (all w.tests) (list_beside r l os ws)
     go true ih = ih
     go false ih = refl
 
-pub cuts_by : (r : Request) (l : Lent) (os : List ℕ) {u : Reply (ℕ × ℕ)} {ws vs : List ℕ} → changed r l.table os ≡ record { reply = u; table = ws; operations = vs }
+pub cuts_by : (r : Request) (l : Lent) (os : List ℕ) {u : Reply Made} {ws vs : List ℕ} → changed r l.table os ≡ record { reply = u; table = ws; operations = vs }
     → cutting r l os ≡ record { answer = with_list u l.ranges.count; table = ws; ranges = l.ranges.words; operations = vs }
 unfolding changed cutting
 cuts_by r l os e = list_beside r l os (room_rows r l.table (length os)) ∙ ap (beside_list l) e

@@ -5,8 +5,8 @@ use Rattle.change.proofs.replacement.Goals as goal
 
 pub returns-then-lo-hi : goal.returns-then-lo-hi
 returns-then-lo-hi c =
-    replaced_none c.requires (record { lower = c.none.result; new = c.new_or_none-new.result; upper = c.none-then-lo-hi.result }) c.if-lo-hi.true
-    c.none.ensures c.new_or_none-new.ensures c.none-then-lo-hi.ensures
+    replaced_none c.requires (record { lower = c.default.result; new = c.new_or_none-new.result; upper = c.default-then-lo-hi.result }) c.if-lo-hi.true
+    c.default.ensures.1.0 c.new_or_none-new.ensures c.default-then-lo-hi.ensures.1.0
 
 pub read_mapping-first-requires : goal.read_mapping-first-requires
 read_mapping-first-requires c = let p = c.requires in omega (arith, low_high p, p.table.held, c.if-lo-hi.false)
