@@ -1,13 +1,18 @@
 -- A batch gives a line's answer exactly if the line's rule is broken and no line's above it; what an empty batch does;
 -- and the whole claim.
 -- Assumes nothing.
-use mathlib.Core.Path.{◌≡◌, refl, sym, ap, ◌∙◌}
+use mathlib.Core.Path.{◌≡◌, refl, sym, ap, ap₂, ◌∙◌}
+use mathlib.Core.HLevel.{is_prop→PathP}
 use mathlib.Core.List.{List, [], ◌∷◌, flat_map}
 use Prim.Native.Nat.{ℕ, ◌+◌, ◌*◌, ◌/◌, ◌≤◌}
 use lib.ListN.{length, replicate}
-use Rattle.model.specs.Rows.{Row, Reply, refused, answered, decide, verdict}
+use Rattle.model.specs.Rows.{Row, Reply, answered, decide, verdict}
 use Rattle.model.specs.Table.{capacity, mappings, operations_row}
-use Rattle.model.specs.Calls.{Lent, lent_rows, see_in, lookup}
+use Rattle.model.specs.Calls.{Lent, lent_rows, see_in, lookup, numbered}
+use Rattle.model.specs.declared.Refusal.{Refusal}
+use Rattle.model.specs.declared.Refusal.TheVariants.{BadSpace, BadTableLength, ShortOperations, BadCount, BadMapping, Unaligned, OutsideSpace, Reserved, BadObject, BadOffset, NoRoom, BadRecordLength, BadOp, BadFlags, BadWorkLength, ShortOutput, StaleWords, BadRanges, RangeOverlaps, NoSuchRange}
+use Rattle.std.specs.Prelude.{Result, Ok, Err}
+use native.Mathlib.Nat.{ℕ_set}
 use Rattle.model.specs.Exactly.{Pins, seen}
 use Rattle.model.specs.declared.Seen.{Seen}
 use Rattle.model.proofs.Tests.{tests}
@@ -16,12 +21,12 @@ use Rattle.model.proofs.Groups.{lent_passed, passed_lent, other_between}
 use Rattle.model.proofs.Exactly.{Answers}
 use Rattle.model.proofs.Store.{length-mappings}
 use Rattle.model.proofs.Taken.{takes_whole}
-use Rattle.model.proofs.Pinned.{back_pins}
+use Rattle.model.proofs.Pinned.{named}
+use Rattle.batches.specs.Place.{place_in}
 use Rattle.batches.specs.Prelude.{Space, Request, Grant}
 use Rattle.batches.specs.Batch.{records_in, requests_in, batch_row, work_row, batch_rows, turns_rows, after_all, operations_all, batch_grant, batch_outcome, turns, bind_batch, batch_reply}
 use Rattle.batches.specs.Exactly.{batch_refusals, BatchExactly}
-use Rattle.batches.specs.declared.BatchAnswer.{BatchAnswer}
-use Rattle.batches.specs.declared.BatchAnswer.TheVariants.{Granted, Refused}
+use Rattle.batches.specs.declared.BatchRefusal.{BatchRefusal}
 use Rattle.batches.proofs.Lines.{of_rows}
 use Rattle.batches.proofs.Records.{read_back}
 use Rattle.batches.proofs.Batch.{batch_answer}
@@ -67,18 +72,41 @@ empty s l ws os x v e three fifteen =
           (lent_passed s [] l (answered_passed (lent_rows s [] l) (see_in s l x) v e).0) ((omega (tests, three), tt), ((omega (tests, fifteen), tt), tt))),
     )
 
--- ── the answer enum ──
+-- ── the code's answers ──
 
-pinned : Pins batch_reply
-pinned = back_pins batch_reply back same
-  where
-    back : Reply Grant → BatchAnswer
-    back (refused n p) = Refused n p
-    back (answered g) = Granted g
+-- the number and the place give the refusal back, since a bad mapping's place is its own
+refusal_back : (w : Refusal) (p : ℕ) → place_in w p ≡ p → named (numbered w).0 p ≡ w
+refusal_back (BadMapping q) p e = ap BadMapping (sym e)
+refusal_back BadSpace p e = refl
+refusal_back BadTableLength p e = refl
+refusal_back ShortOperations p e = refl
+refusal_back BadCount p e = refl
+refusal_back Unaligned p e = refl
+refusal_back OutsideSpace p e = refl
+refusal_back Reserved p e = refl
+refusal_back BadObject p e = refl
+refusal_back BadOffset p e = refl
+refusal_back NoRoom p e = refl
+refusal_back BadRecordLength p e = refl
+refusal_back BadOp p e = refl
+refusal_back BadFlags p e = refl
+refusal_back BadWorkLength p e = refl
+refusal_back ShortOutput p e = refl
+refusal_back StaleWords p e = refl
+refusal_back BadRanges p e = refl
+refusal_back RangeOverlaps p e = refl
+refusal_back NoSuchRange p e = refl
 
-    same : (a : BatchAnswer) → back (batch_reply a) ≡ a
-    same (Granted g) = refl
-    same (Refused n p) = refl
+same : (a b : BatchRefusal) → (numbered a.refusal).0 ≡ (numbered b.refusal).0 → a.place ≡ b.place → a ≡ b
+same a b d p =
+    let r : a.refusal ≡ b.refusal = sym (refusal_back a.refusal a.place a.own) ∙ ap₂ named d p ∙ refusal_back b.refusal b.place b.own in
+    λ i. record { refusal = r i; place = p i; own = is_prop→PathP (λ j. place_in (r j) (p j) ≡ p j) (λ j. ℕ_set (place_in (r j) (p j)) (p j)) a.own b.own i }
+
+pinned : Pins {A = Result Grant BatchRefusal} batch_reply
+pinned (Ok g) (Ok h) e = cc
+pinned (Ok g) (Err b) e = cc
+pinned (Err a) (Ok h) e = cc
+pinned (Err a) (Err b) e = ap Err (same a b (cc) (cc))
 
 pub exactly : BatchExactly
 exactly = record { of_batch = of_batch; refuses = refuses; empty = empty; never_short = never_short; records = read_back; pinned = pinned }

@@ -1,15 +1,14 @@
 -- A batch (document 02, Item 2): 0 to 64 request records in a row, of which all are granted or none.
-use Rattle.std.specs.Prelude.{List, [], ◌∷◌, ◌++◌, map, ℕ, zero, suc, ◌-◌, ◌*◌, ◌/◌, ◌%◌, leb, eqb, length, take, drop, replicate}
+use Rattle.std.specs.Prelude.{List, [], ◌∷◌, ◌++◌, map, ℕ, zero, suc, ◌-◌, ◌*◌, ◌/◌, ◌%◌, leb, eqb, length, take, drop, replicate, Result, Ok, Err}
 use mathlib.Core.List.{flat_map}
 use Rattle.model.specs.Rows.{Row, row, placed, Reply, refused, answered, decide, verdict}
 use Rattle.model.specs.Rules.{form_rows, request_rows}
 use Rattle.model.specs.Table.{Table, capacity, mappings, written, operations_row}
 use Rattle.model.specs.Cut.{after, operations}
 use Rattle.model.specs.Layout.{words_of_operation}
-use Rattle.model.specs.Calls.{record_bytes, request_of, Lent, lent_rows, count_after}
+use Rattle.model.specs.Calls.{record_bytes, request_of, Lent, lent_rows, count_after, numbered}
 use Rattle.batches.specs.Prelude.{Space, Mapping, Request, Operation, Grant}
-use Rattle.batches.specs.declared.BatchAnswer.{BatchAnswer}
-use Rattle.batches.specs.declared.BatchAnswer.TheVariants.{Granted, Refused}
+use Rattle.batches.specs.declared.BatchRefusal.{BatchRefusal}
 
 -- a batch has at most so many records
 abbrev pub most_records : ℕ
@@ -112,7 +111,7 @@ bind_batch s l ws os bs =
 abbrev pub lent_after_batch : Lent → BatchOutcome → Lent
 lent_after_batch l o = record { table = record { words = o.table; count = count_after o.answer l.table.count }; ranges = l.ranges }
 
--- the answer enum of src/lib.rt
-abbrev pub batch_reply : BatchAnswer → Reply Grant
-batch_reply (Granted g) = answered g
-batch_reply (Refused n p) = refused n p
+-- a Result of the code: what it answers, or its refusal's number, and its place
+abbrev pub batch_reply : {A : Type 0} → Result A BatchRefusal → Reply A
+batch_reply (Ok a) = answered a
+batch_reply (Err b) = refused (numbered b.refusal).0 b.place

@@ -1,12 +1,13 @@
 -- The refusals of a batch, in words: a line's answer is given exactly if its rule is broken and no line's above it. What
 -- each kind of answer leaves.
-use Rattle.std.specs.Prelude.{◌≡◌, ◌⊎◌, ◌↔◌, List, [], ◌∷◌, map, ℕ, suc, ◌+◌, ◌-◌, ◌*◌, ◌/◌, ◌%◌, ◌≤◌, ◌<◌, length, replicate}
+use Rattle.std.specs.Prelude.{◌≡◌, ◌⊎◌, ◌↔◌, List, [], ◌∷◌, map, ℕ, suc, ◌+◌, ◌-◌, ◌*◌, ◌/◌, ◌%◌, ◌≤◌, ◌<◌, length, replicate, Result}
 use mathlib.Core.List.{flat_map}
 use Rattle.model.specs.Calls.{Reply, refused, answered, mappings, after, operations, request_of, Lent, lookup}
 use Rattle.model.specs.Exactly.{Each, ◌∈◌, RefusalTable, line, otherwise, Gives, NoFlag, form_lines, request_lines, refusal, lent_lines}
 use Rattle.model.specs.Exactly.{operations_line, RoomRule, Pins}
 use Rattle.model.specs.declared.Seen.{Seen}
 use Rattle.batches.specs.Prelude.{Space, Mapping, Request, Grant}
+use Rattle.batches.specs.declared.BatchRefusal.{BatchRefusal}
 use Rattle.batches.specs.Batch.{records_in, requests_in, batch_grant, BatchOutcome, bind_batch, batch_reply}
 
 -- of the requests from the place p on, each on the mappings that the one before leaves, and with the words that are left
@@ -70,5 +71,5 @@ pub record BatchExactly : Type 0 where
   -- records of 40 bytes, put in a row, are read back in that order, and their requests
   pub records : (recs : List (List ℕ)) → Each (λ b. length b ≡ 40) recs
       → (records_in (length recs) (flat_map (λ b. b) recs) ≡ recs) × (requests_in (flat_map (λ b. b) recs) ≡ map request_of recs)
-  -- no two answers of the enum read alike
-  pub pinned : Pins batch_reply
+  -- no two answers of the code read alike
+  pub pinned : Pins {A = Result Grant BatchRefusal} batch_reply

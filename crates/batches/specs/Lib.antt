@@ -1,4 +1,5 @@
 pub mod Prelude
+pub mod Place
 pub mod Batch
 pub mod Exactly
 pub mod Grants

@@ -1,13 +1,31 @@
 // What must be believed of a batch of requests (document 02, Item 2), and nothing else: the declared type here, the
-// definitions and the claims in specs/. There is no function. Proofs of the claims are in proofs/.
+// definitions and the claims in specs/. Proofs of the claims are in proofs/.
 #![tactic(auto)]
 
-use model::Grant;
+ghost use Rattle.std.specs.Prelude.{◌≡◌};
+ghost use Rattle.model.specs.Calls.{numbered};
+ghost use Rattle.batches.specs.Place.{place_in};
 
-// The answer to a batch: a grant, or a refusal's number and place. The number tells what the place is: a mapping's for 5, a
-// request's for a number that a request gets in its turn, else 0.
+use model::Refusal;
+
+// Why a batch is refused, and the place that its answer tells. The refusal tells what the place is: of a bad mapping its
+// own, of a refusal that a request gets in its turn the request's, else 0.
 #[derive(Clone, Copy)]
-pub enum BatchAnswer {
-    Granted(Grant),
-    Refused(u32, usize),
+pub struct BatchRefusal {
+    pub refusal: Refusal,
+    pub place: usize,
+    pub ghost own: { place_in refusal place ≡ place },
+}
+
+// The batch's own refusals, as `?` passes them on.
+impl From<Refusal> for BatchRefusal {
+    ghost from_gives = { λ w b. (b.refusal ≡ w) × (b.place ≡ (numbered w).1) };
+
+    fn from(refusal: Refusal) -> BatchRefusal {
+        let place = match refusal {
+            Refusal::BadMapping(place) => place,
+            _ => 0,
+        };
+        BatchRefusal { refusal, place }
+    }
 }
