@@ -9,6 +9,7 @@ ghost use Rattle.table.specs.Splice.{mappings_of};
 ghost use Rattle.model.specs.Calls.{reply_of};
 ghost use Rattle.change.specs.Change.{Ready, FirstBehind, Placed, changed};
 
+use cut::Cut;
 use model::{Mapping, Refusal, Request};
 use table::Replacement;
 
@@ -33,26 +34,26 @@ fn new_or_none(r: Request) -> Mapping
     }
 }
 
-// What takes the place of the mappings hit, from place `lo` up to `hi`: what is left of the first below the range, the new
-// mapping, what is left of the last above the range.
-fn replacement(r: Request, t: &[u64], lo: usize, hi: usize) -> Replacement
-    requires { Placed r t.now lo hi }
-    ensures { mappings_of result ≡ after r (between t.now lo hi) }
+// What takes the place of the mappings hit: what is left of the first below the range, the new mapping, what is left of the
+// last above the range.
+fn replacement(hit: Cut, t: &[u64]) -> Replacement
+    requires { Placed hit.request t.now hit.lo hit.hi }
+    ensures { mappings_of result ≡ after hit.request (between t.now hit.lo hit.hi) }
 {
-    let new = new_or_none(r);
-    if lo == hi {
+    let new = new_or_none(hit.request);
+    if hit.lo == hit.hi {
         return Replacement {
             lower: Mapping::default(),
             new,
             upper: Mapping::default(),
         };
     }
-    let first = table::read_mapping(t, lo);
-    let last = table::read_mapping(t, hi - 1);
+    let first = table::read_mapping(t, hit.lo);
+    let last = table::read_mapping(t, hit.hi - 1);
     Replacement {
-        lower: cut::lower_part(r, first),
+        lower: cut::lower_part(hit.request, first),
         new,
-        upper: cut::upper_part(r, last),
+        upper: cut::upper_part(hit.request, last),
     }
 }
 
@@ -69,17 +70,18 @@ pub fn change(
     ensures { changed r (lent t.old count) operations.old ≡ record { reply = reply_of result; table = t.new; operations = operations.new } }
 {
     let hi = table::first_starting_behind(t, lo, count, cut::last_byte(r));
-    let new = replacement(r, t, lo, hi);
+    let hit = Cut { request: r, lo, hi };
+    let new = replacement(hit, t);
     let after = lo + table::replacement_length(new) + (count - hi);
     let is_full = t.len() / 4 < after;
     if is_full {
         return Err(Refusal::NoRoom);
     }
-    let number = cut::operations_number(r, lo, hi);
+    let number = hit.operations_number();
     if operations.len() < cut::OPERATION_WORDS * number {
         return Err(Refusal::ShortOutput);
     }
-    cut::write_operations(operations, t, r, lo, hi);
+    hit.write_operations(t, operations);
     table::splice(t, count, lo, hi, new);
     Ok(Made {
         operations: number,

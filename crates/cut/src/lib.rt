@@ -237,32 +237,43 @@ pub fn read_operation(words: &[u64]) -> Option<Operation>
     )
 }
 
-// Writes the operations of the mappings from place `lo` up to `hi`, from the first word on.
-fn write_hits(operations: &mut [u64], t: &[u64], r: Request, lo: usize, hi: usize)
-    requires { Hits r t.now lo hi (length operations.old) }
-    ensures { operations.new ≡ stored operations.old 0 (flat_map words_of_operation (hit_operations r (between t.now lo hi))) }
-{
-    for i in lo..hi {
-        let operation = operation_of(r, table::read_mapping(t, i));
-        write_operation(operations, OPERATION_WORDS * (i - lo), operation);
+// A request, and the mappings that it hits: those of a table from place `lo` up to `hi`.
+#[derive(Clone, Copy)]
+pub struct Cut {
+    pub request: Request,
+    pub lo: usize,
+    pub hi: usize,
+}
+
+impl Cut {
+    // How many operations it has: those of the mappings hit, and a map's own.
+    pub fn operations_number(self) -> usize
+        requires { (self.lo ≤ self.hi) × (self.hi < 2 ^ 63) }
+        ensures { result ≡ self.hi - self.lo + length (new self.request) }
+    {
+        self.hi - self.lo + usize::from(new(self.request).is_some())
     }
-}
 
-// How many operations a request has that hits the mappings from place `lo` up to `hi`: theirs, and a map's own.
-pub fn operations_number(r: Request, lo: usize, hi: usize) -> usize
-    requires { (lo ≤ hi) × (hi < 2 ^ 63) }
-    ensures { result ≡ hi - lo + length (new r) }
-{
-    hi - lo + usize::from(new(r).is_some())
-}
+    // Writes the operations of the mappings hit, from the first word on.
+    fn write_hits(self, t: &[u64], operations: &mut [u64])
+        requires { Hits self.request t.now self.lo self.hi (length operations.old) }
+        ensures { operations.new ≡ stored operations.old 0 (flat_map words_of_operation (hit_operations self.request (between t.now self.lo self.hi))) }
+    {
+        for i in self.lo..self.hi {
+            let operation = operation_of(self.request, table::read_mapping(t, i));
+            write_operation(operations, OPERATION_WORDS * (i - self.lo), operation);
+        }
+    }
 
-// Writes them, from the first word on, a map's own behind the others.
-pub fn write_operations(operations: &mut [u64], t: &[u64], r: Request, lo: usize, hi: usize)
-    requires { Hits r t.now lo hi (length operations.old) }
-    ensures { operations.new ≡ stored operations.old 0 (flat_map words_of_operation (operations_for r (between t.now lo hi))) }
-{
-    write_hits(operations, t, r, lo, hi);
-    if let Some(m) = new(r) {
-        write_operation(operations, OPERATION_WORDS * (hi - lo), Operation::Map(m));
+    // Writes all its operations, from the first word on, a map's own behind the others.
+    pub fn write_operations(self, t: &[u64], operations: &mut [u64])
+        requires { Hits self.request t.now self.lo self.hi (length operations.old) }
+        ensures { operations.new ≡ stored operations.old 0 (flat_map words_of_operation (operations_for self.request (between t.now self.lo self.hi))) }
+    {
+        self.write_hits(t, operations);
+        if let Some(m) = new(self.request) {
+            let own = OPERATION_WORDS * (self.hi - self.lo);
+            write_operation(operations, own, Operation::Map(m));
+        }
     }
 }
