@@ -1,7 +1,7 @@
 -- Rows that pass leave a table and a list that can be searched and changed.
 -- Assumes nothing.
 use mathlib.Core.Path.{◌≡◌, refl, sym, subst, ◌∙◌}
-use mathlib.Core.Bool.{Bool, true, false, ◌&&◌}
+use mathlib.Core.Bool.{true, ◌&&◌}
 use mathlib.Core.List.{List, [], ◌∷◌, ◌++◌}
 use Prim.Native.Nat.{ℕ, zero, suc, ◌+◌, ◌*◌, ◌≤◌}
 use native.Mathlib.Omega.{arith}
@@ -10,7 +10,7 @@ use lib.ListN.{length}
 use borrow.Author.Tests.{eq-eqb}
 use Rattle.model.specs.declared.Request.{Request}
 use Rattle.model.specs.declared.Space.{Space}
-use Rattle.model.specs.Rows.{all, Row, Reply, refused, answered, verdict}
+use Rattle.model.specs.Rows.{all, Row, Reply, answered, verdict}
 use Rattle.model.specs.Rules.{limit, space_tests, object_tests, offset_tests, request_rows}
 use Rattle.model.specs.Table.{Table, mappings, operations_row, content_rows, table_rows}
 use Rattle.model.specs.Cut.{operations}
@@ -26,7 +26,7 @@ use Rattle.table.specs.Places.{ValidIn}
 use Rattle.change.specs.Change.{Ready}
 use Rattle.ranges.specs.Lists.{lent_list, ValidList}
 use Rattle.ranges.proofs.Fits.{empty_decides}
-use Rattle.request.specs.Bound.{length_rows, checked_rows, front_rows, Checked, Relistable}
+use Rattle.request.specs.Bound.{length_rows, checked_rows, Checked, Relistable}
 
 -- a map's offset and size end by 2^48, and any other request has no offset
 offset_most : {s : Space} (r : Request) → RequestPassed s r → r.offset ≤ limit
@@ -115,18 +115,8 @@ module _ (s : Space) (l : Lent) where
         }
 
   -- rows 1 to 5, 17 and 18, and those behind them
-  checked_by : (n : ℕ) (r : Request) {u : Reply (Unit {0})} → u ≡ verdict (own n) → and_then u (verdict (request_rows s r)) ≡ verdict (checked_rows s l n r)
+  pub checked_by : (n : ℕ) (r : Request) {u : Reply (Unit {0})} → u ≡ verdict (own n) → and_then u (verdict (request_rows s r)) ≡ verdict (checked_rows s l n r)
   checked_by n r e = rw e (sym (decide-append (own n) (request_rows s r) tt))
-
-  -- unless those are known to pass
-  pub front_refused : (n : ℕ) (r : Request) (known : Bool) {m p : ℕ} → known ≡ false → refused m p ≡ verdict (own n) → refused m p ≡ verdict (front_rows known s l n r)
-  front_refused n r true k e = absurd (subst T k tt)
-  front_refused n r false k e = checked_by n r e
-
-  pub front_by : (n : ℕ) (r : Request) (known : Bool) {u : Reply (Unit {0})} → (known ≡ false → answered tt ≡ verdict (own n)) → u ≡ verdict (request_rows s r)
-      → u ≡ verdict (front_rows known s l n r)
-  front_by n r true k e = e
-  front_by n r false k e = e ∙ checked_by n r (k refl)
 
   -- past rows 1, 2 and 3 the space keeps its rules
   pub lengths_held : (n : ℕ) → answered tt ≡ verdict (length_rows s n l.table.words) → all (space_tests s) ≡ true

@@ -1,6 +1,6 @@
 -- What is lent, in slices; and a request whose form is right, by numbers or decoded: what is left of the public call.
 -- Assumes nothing.
-use Rattle.std.specs.Prelude.{Bool, true, false, List, [], ◌∷◌, ◌++◌, ℕ, zero, suc, ◌*◌, ◌≤◌, ◌<◌, length}
+use Rattle.std.specs.Prelude.{List, [], ◌∷◌, ◌++◌, ℕ, zero, suc, ◌*◌, ◌≤◌, ◌<◌, length}
 use Rattle.model.specs.declared.Request.{Request}
 use Rattle.model.specs.declared.Space.{Space}
 use Rattle.model.specs.Rows.{Row, Reply, refused, answered, decide}
@@ -11,7 +11,7 @@ use Rattle.model.proofs.Tests.{Alls}
 use Rattle.words.specs.Words.{ZeroFrom}
 use Rattle.table.specs.Places.{lent, Valid, ValidIn}
 use Rattle.ranges.specs.Lists.{lent_list, ValidList}
-use Rattle.change.specs.Change.{room_rows}
+use Rattle.change.specs.Change.{Changed, changed_for, made, room_rows}
 
 -- a list of sparse ranges and a table in lent slices of words, each with its count
 abbrev pub lent_words : List ℕ → ℕ → List ℕ → ℕ → Lent
@@ -24,11 +24,6 @@ length_rows s n ws = space_row s ∷ length_row (lent ws 0) ∷ operations_row n
 -- the rows 1 to 5, 17, 18 and 6 to 10
 abbrev pub checked_rows : Space → Lent → ℕ → Request → List Row
 checked_rows s l n r = lent_rows s (operations_row n l.table ∷ []) l ++ request_rows s r
-
--- without those that are known to pass
-abbrev pub front_rows : Bool → Space → Lent → ℕ → Request → List Row
-front_rows true s l n r = request_rows s r
-front_rows false s l n r = checked_rows s l n r
 
 -- where these passed, 19, 20 and 11 decide, by what the request is for
 unfoldable pub decided : Purpose → Request → Lent → List ℕ → Outcome
@@ -65,12 +60,8 @@ pub record Checked (s : Space) (t : Table) : Type 0 where
   pub behind : ZeroFrom t.words (4 * t.count)
 
 -- a request without the flag on such a table: 6 to 11 and 16
-unfoldable pub bound_known : Space → Lent → List ℕ → Request → Outcome
-bound_known s l os r = outcome_for (decide (request_rows s r ++ room_rows r l.table (length os)) (cut_grant r l)) cuts r l os
-
-abbrev pub requested : Bool → Space → Lent → List ℕ → Request → Outcome
-requested true s l os r = bound_known s l os r
-requested false s l os r = partly s l os r
+unfoldable pub bound_known : Space → Table → List ℕ → Request → Changed
+bound_known s t os r = changed_for (decide (request_rows s r ++ room_rows r t (length os)) (made r t)) r t os
 
 -- what changing the list asks for: a table and a list that passed their checks, and a range in order
 pub record Relistable (r : Request) (l : Lent) : Type 0 where

@@ -1,40 +1,55 @@
-use mathlib.Core.Path.{sym, ap, ◌∙◌}
-use Rattle.model.specs.Calls.{verdict_reply}
+use mathlib.Core.Path.{◌∙◌}
+use Rattle.std.proofs.lemmas.Result.{err_from_is_err_and}
 use Rattle.request.specs.Bound.{lent_words}
-use Rattle.request.proofs.Bound.{some}
-use Rattle.request.proofs.Requested.{ready_there, refused_there, cut_there, passed_there}
+use Rattle.request.proofs.Bound.{some, partly_passed, partly_refused}
+use Rattle.request.proofs.Checked.{ready, checked_by}
+use Rattle.request.proofs.Requested.{cut_there}
 use Rattle.request.proofs.bind_request.Goals as goal
 
-pub first_place-first-requires : goal.first_place-first-requires
-first_place-first-requires c =
+pub returns-in_err-lent_verdict : goal.returns-in_err-lent_verdict
+returns-in_err-lent_verdict c =
     let a = c.args in
-    let ready = ready_there a.s (lent_words a.ranges.now a.range_count a.table.now a.count) a.operations.now a.r a.known c.requires
-    (sym (ap verdict_reply c.in-Pass.is) ∙ c.bind_verdict.ensures) in
-    (ready.table, λ e. (c.requires e).2)
+    let l = lent_words a.ranges.now a.range_count a.table.now a.count in
+    let p = err_from_is_err_and c.from_residual.result c.from_residual.ensures.1 in
+    rw (p.1, p.2) (partly_refused a.s l a.operations.now a.r (checked_by a.s l _ a.r c.in_err-lent_verdict.ensures))
 
-pub cut_table-requires : goal.cut_table-requires
-cut_table-requires c =
-    let a = c.args in (
-      ready_there a.s (lent_words a.ranges.now a.range_count a.table.now a.count) a.operations.now a.r a.known c.requires
-          (sym (ap verdict_reply c.in-Pass.is) ∙ c.bind_verdict.ensures),
-      c.first_place-first.ensures,
-    )
-
-pub returns-then-r-eq0 : goal.returns-then-r-eq0
-returns-then-r-eq0 c =
+pub returns-in_err-request_verdict : goal.returns-in_err-request_verdict
+returns-in_err-request_verdict c =
     let a = c.args in
-    cut_there a.s (lent_words a.ranges.now a.range_count a.table.now a.count) a.operations.now a.r a.known c.if-r-eq0.true
-    (sym (ap verdict_reply c.in-Pass.is) ∙ c.bind_verdict.ensures)
-    ∙ c.cut_table.ensures a.ranges.now
+    let l = lent_words a.ranges.now a.range_count a.table.now a.count in
+    let p = err_from_is_err_and c.from_residual-in_err-request_verdict.result c.from_residual-in_err-request_verdict.ensures.1 in
+    rw (p.1, p.2)
+    (partly_refused a.s l a.operations.now a.r (c.in_err-request_verdict.ensures ∙ checked_by a.s l _ a.r c.in_ok-lent_verdict.ensures))
 
-pub returns-in-Refuse : goal.returns-in-Refuse
-returns-in-Refuse c =
+pub returns-then-r-ne0 : goal.returns-then-r-ne0
+returns-then-r-ne0 c =
     let a = c.args in
-    refused_there a.s (lent_words a.ranges.now a.range_count a.table.now a.count) a.operations.now a.r a.known
-    (sym (ap verdict_reply c.in-Refuse.is) ∙ c.bind_verdict.ensures)
+    let l = lent_words a.ranges.now a.range_count a.table.now a.count in
+    partly_passed a.s l a.operations.now a.r (some a.r.flags c.if-r-ne0.true)
+    (c.in_ok-request_verdict.ensures ∙ checked_by a.s l _ a.r c.in_ok-lent_verdict.ensures)
 
-pub returns-else-r-eq0 : goal.returns-else-r-eq0
-returns-else-r-eq0 c =
+pub first_ending_behind-place-requires : goal.first_ending_behind-place-requires
+first_ending_behind-place-requires c =
     let a = c.args in
-    passed_there a.s (lent_words a.ranges.now a.range_count a.table.now a.count) a.operations.now a.r a.known c.requires
-    (some a.r.flags c.if-r-eq0.false) (sym (ap verdict_reply c.in-Pass.is) ∙ c.bind_verdict.ensures)
+    let l = lent_words a.ranges.now a.range_count a.table.now a.count in
+    (ready a.s l _ a.r (c.in_ok-request_verdict.ensures ∙ checked_by a.s l _ a.r c.in_ok-lent_verdict.ensures)).table
+
+pub change-requires : goal.change-requires
+change-requires c =
+    let a = c.args in
+    let l = lent_words a.ranges.now a.range_count a.table.now a.count in
+    (ready a.s l _ a.r (c.in_ok-request_verdict.ensures ∙ checked_by a.s l _ a.r c.in_ok-lent_verdict.ensures), c.first_ending_behind-place.ensures)
+
+pub returns-in_err-made : goal.returns-in_err-made
+returns-in_err-made c =
+    let a = c.args in
+    let l = lent_words a.ranges.now a.range_count a.table.now a.count in
+    let p = err_from_is_err_and c.from_residual-in_err-made.result c.from_residual-in_err-made.ensures.1 in
+    rw (p.1, p.2)
+    (cut_there a.s l a.operations.now a.r c.if-r-ne0.false (c.in_ok-request_verdict.ensures ∙ checked_by a.s l _ a.r c.in_ok-lent_verdict.ensures) (rw c.in_err-made.was at c.change.ensures))
+
+pub returns : goal.returns
+returns c =
+    let a = c.args in
+    let l = lent_words a.ranges.now a.range_count a.table.now a.count in
+    cut_there a.s l a.operations.now a.r c.if-r-ne0.false (c.in_ok-request_verdict.ensures ∙ checked_by a.s l _ a.r c.in_ok-lent_verdict.ensures) (rw c.in_ok-made.was at c.change.ensures)

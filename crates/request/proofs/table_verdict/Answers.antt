@@ -1,6 +1,6 @@
-use mathlib.Core.Path.{refl, sym, ap, ◌∙◌}
+use mathlib.Core.Path.{refl}
 use mathlib.Core.List.{[]}
-use Rattle.model.specs.Calls.{verdict_reply}
+use Rattle.std.proofs.lemmas.Result.{err_from_is_err_and}
 use Rattle.request.specs.Bound.{lent_words}
 use Rattle.request.proofs.Checked.{lengths_held, table_by}
 use Rattle.request.proofs.table_verdict.Goals as goal
@@ -8,14 +8,15 @@ use Rattle.request.proofs.table_verdict.Goals as goal
 pub contents_verdict-requires : goal.contents_verdict-requires
 contents_verdict-requires c =
     let a = c.args in
-    lengths_held a.s (lent_words [] 0 a.table.now a.count) a.operation_words (sym (ap verdict_reply c.in-Pass.is) ∙ c.lengths_verdict.ensures)
+    lengths_held a.s (lent_words [] 0 a.table.now a.count) a.operation_words c.in_ok-lengths_verdict.ensures
 
-pub returns-in-Refuse : goal.returns-in-Refuse
-returns-in-Refuse c =
+pub returns-in_err-lengths_verdict : goal.returns-in_err-lengths_verdict
+returns-in_err-lengths_verdict c =
     let a = c.args in
-    table_by a.s (lent_words [] 0 a.table.now a.count) a.operation_words [] (sym (ap verdict_reply c.in-Refuse.is) ∙ c.lengths_verdict.ensures) refl
+    let p = err_from_is_err_and c.from_residual.result c.from_residual.ensures.1 in
+    rw (p.1, p.2) (table_by a.s (lent_words [] 0 a.table.now a.count) a.operation_words [] c.in_err-lengths_verdict.ensures refl)
 
-pub returns-in-Pass : goal.returns-in-Pass
-returns-in-Pass c =
+pub returns : goal.returns
+returns c =
     let a = c.args in
-    table_by a.s (lent_words [] 0 a.table.now a.count) a.operation_words [] (sym (ap verdict_reply c.in-Pass.is) ∙ c.lengths_verdict.ensures) c.contents_verdict.ensures
+    table_by a.s (lent_words [] 0 a.table.now a.count) a.operation_words [] c.in_ok-lengths_verdict.ensures c.contents_verdict.ensures
