@@ -1,28 +1,20 @@
 -- The unread bytes stay in front of what a read brings.
 -- Assumes nothing.
 use mathlib.Core.Path.{◌≡◌, refl, ap, ◌∙◌}
-use mathlib.Core.List.{List, ◌++◌}
-use Prim.Native.Nat.{ℕ, ◌+◌, ◌-◌, ◌≤◌, ◌<◌}
+use mathlib.Core.Bool.{Bool}
+use mathlib.Core.List.{List, [], ◌∷◌, ◌++◌}
+use Prim.Native.Nat.{ℕ, ◌+◌, ◌-◌, ◌≤◌}
 use native.Mathlib.Omega.{arith}
 use lib.ListN.{length, take, drop}
 use lib.Seq.{take-add}
-use borrow.Rule.Slice.PartMut.{mid_of, put_mid, same_len_mid, take_put}
+use Rattle.std.specs.Prelude.{◌==◌, Result, Err, MatchResult}
 use Rattle.words.specs.Words.{moved}
 use Rattle.words.proofs.Moved.{length_part, moved_is}
 use Rattle.words.proofs.Stored.{take-stored-end}
+use Rattle.vmbind.specs.declared.Failure.{Failure}
+use Rattle.vmbind.specs.declared.Failure.TheVariants.{Read}
 use Rattle.vmbind.specs.declared.Run.{Run}
-use Rattle.vmbind.specs.declared.Got.{Got}
-use Rattle.vmbind.specs.declared.Got.TheVariants.{Bytes}
-use Rattle.vmbind.specs.Buffers.{bytes_in, is_last, end_of, unread, Brings, Refilled}
-
-pub brings : (input : List ℕ) (kept : ℕ) (g : Got) (ys : List ℕ) → kept + bytes_in g ≤ length input → length ys ≡ length (mid_of kept (length input - kept) input)
-    → ((n : ℕ) → g ≡ Bytes n → 0 < n)
-    → Brings input kept g (put_mid kept (length input - kept) input ys)
-brings input kept g ys h l k = record {
-  not_empty = k;
-  inside = omega (arith, same_len_mid kept (length input - kept) input ys l);
-  same = take_put kept (length input - kept) input ys (omega arith);
-}
+use Rattle.vmbind.specs.Buffers.{unread, Refilled}
 
 moved_front : (ws : List ℕ) (from n : ℕ) → from + n ≤ length ws → take n (moved ws from 0 n) ≡ take n (drop from ws)
 moved_front ws from n h =
@@ -30,25 +22,32 @@ moved_front ws from n h =
     let l : 0 + length run ≡ n = omega (arith, length_part ws from n h) in
     ap (take n) (moved_is ws from 0 n) ∙ (rw l at (take-stored-end ws 0 run (omega arith)))
 
--- the run as a refill leaves it
-abbrev pub refilled : Run → ℕ → Got → Run
-refilled run to g =
-    record { progress = run.progress; from = 0; to = to; last = is_last g; printed = run.printed; written = run.written; end = end_of g }
+-- what a refill promises of its answer, by the bytes that have come
+abbrev pub Tells : Run → Result (Unit {0}) Failure → Bool → List ℕ → Type 0
+Tells run e last more = MatchResult e (λ _. last ≡ (length more == 0)) (λ f. (f ≡ Read) × (more ≡ []) × (last ≡ run.last))
 
-pub refills : (run : Run) (input : List ℕ) {n to : ℕ} {kept after : List ℕ} (g : Got) → to ≡ n + bytes_in g → run.from ≤ run.to → run.to ≤ length input
-    → n ≡ run.to - run.from → kept ≡ moved input run.from 0 n → Brings kept n g after
-    → Refilled run input (refilled run to g) after
-refills run input {n} {to} {kept} {after} g t o i e k b = record {
-  same = (refl, refl, refl);
+-- the first `kept` bytes are the unread ones, and behind them some more have come
+pub refills : (run : Run) {e : Result (Unit {0}) Failure} {kept to : ℕ} {front after : List ℕ} {last : Bool} (more : ℕ) → to ≡ kept + more → to ≤ length after
+    → run.from ≤ run.to → run.to ≤ length run.input → kept ≡ run.to - run.from → front ≡ moved run.input run.from 0 kept → take kept after ≡ take kept front
+    → ((bytes : List ℕ) → length bytes ≡ more → Tells run e last bytes)
+    → Refilled run e (record run { input = after; from = 0; to = to; last = last })
+refills run {kept = kept} {to = to} {after = after} more t i o j e m b tells = record {
+  same = refl;
   order = omega arith;
-  inside = omega (arith, b.inside);
-  more = take (bytes_in g) (drop n after);
-  got = g;
-  not_empty = b.not_empty;
-  brought = (length_part after n (bytes_in g) b.inside, refl, refl);
+  inside = i;
+  more = take more (drop kept after);
   behind =
-      let z : to - 0 ≡ n + bytes_in g = omega arith in
-      let front : take n after ≡ unread run input =
-      b.same ∙ ap (take n) k ∙ moved_front input run.from n (omega arith) ∙ ap (λ (m : ℕ). take m (drop run.from input)) e in
-      rw z (take-add n (bytes_in g) after ∙ ap (λ (l : List ℕ). l ++ take (bytes_in g) (drop n after)) front);
+      let z : to - 0 ≡ kept + more = omega arith in
+      let front : take kept after ≡ unread run =
+      b ∙ ap (take kept) m ∙ moved_front run.input run.from kept (omega arith) ∙ ap (λ (n : ℕ). take n (drop run.from run.input)) e in
+      rw z (take-add kept more after ∙ ap (λ (l : List ℕ). l ++ take more (drop kept after)) front);
+  outcome = tells (take more (drop kept after)) (length_part after kept more (omega arith));
 }
+
+-- where the read failed
+pub failed : (run : Run) {e : Result (Unit {0}) Failure} → e ≡ Err Read → (bytes : List ℕ) → length bytes ≡ 0 → Tells run e run.last bytes
+failed run h bytes l = rw h (refl, none bytes l, refl)
+  where
+    none : (xs : List ℕ) → length xs ≡ 0 → xs ≡ []
+    none [] k = refl
+    none (x ∷ xs) k = absurd (omega arith)

@@ -2,20 +2,24 @@
 // What is printed is made by `script::advance`; here are the buffers, the reads and the writes.
 #![tactic(auto)]
 
-ghost use Rattle.std.specs.Prelude.{◌≡◌, ◌+◌, ◌^◌, ◌≤◌, ◌<◌, length};
-ghost use Rattle.program.specs.Script.{start};
-ghost use Rattle.program.specs.Text.{ascii};
-ghost use Rattle.text.specs.Lines.{Put};
-ghost use Rattle.script.specs.Progress.{Advances};
-ghost use Rattle.vmbind.specs.Buffers.{got_of, unread, standing, behind, message};
-ghost use Rattle.vmbind.specs.Buffers.{Below64KiB, Brings, Refilled, Writes, Held, Carries, Ran};
+ghost use Rattle.std.specs.Prelude.{◌≡◌, ◌+◌, ◌^◌, ◌≤◌, ◌<◌, length, codes, Some, MatchResult};
+ghost use Rattle.vmbind.specs.declared.Failure.TheVariants.{Write};
+ghost use Rattle.vmbind.specs.Buffers.{message};
+ghost use Rattle.vmbind.specs.Buffers.{start_run, Below64KiB, Brings, Refilled, Printed, Writes, Held, Carries, Ran};
 
-use script::{Progress, Turned};
-use std::io;
+use script::Progress;
+use std::fmt;
 use std::io::{Read, Stdin, Stdout, Write};
+use std::ops::ControlFlow;
 
-// The input and the output; with the list, the table and the operations of a request on it the buffers are 58,480 bytes
+// The list of ranges, the table, and the operations of a request on it; with the input and the output they have 58,480 bytes
 // together (`Below64KiB`).
+const RANGE_WORDS: usize = 128;
+
+const TABLE_WORDS: usize = 1024;
+
+const OPERATION_WORDS: usize = 3598;
+
 const INPUT_BYTES: usize = 8192;
 
 const OUTPUT_BYTES: usize = 12288;
@@ -23,294 +27,168 @@ const OUTPUT_BYTES: usize = 12288;
 // Byte places below it, with the input behind them, fit 64 bits.
 const MOST_PLACE: u64 = 0x8000_0000_0000_0000;
 
-// A run goes on, or how it ended.
-#[derive(Clone, Copy)]
-enum End {
-    Going,
-    Done,
-    ReadFailed,
-    WriteFailed,
+// Why a run ended before its script did. It displays as the line for standard error.
+#[derive(Clone, Copy, Debug)]
+enum Failure {
+    Read,
+    Write,
     TooLong,
 }
 
-// Between two reads: the unread bytes stand in the input from `from` up to `to`; no more come if they are the last.
-// The last round printed so many bytes, at the front of the output, and the system took so many of them.
-#[derive(Clone, Copy)]
+impl fmt::Display for Failure {
+    ghost output = { λ f. Some (codes (message f)) };
+
+    fn fmt<W: fmt::Write>(&self, f: &mut fmt::Formatter<W>) -> fmt::Result {
+        match self {
+            Failure::Read => writeln!(f, "vmbind: cannot read standard input"),
+            Failure::Write => writeln!(f, "vmbind: cannot write standard output"),
+            Failure::TooLong => writeln!(f, "vmbind: the script is too long"),
+        }
+    }
+}
+
+// What the program holds, and its buffers. The unread bytes stand in the input from `from` up to `to`; no more come if they
+// are the last. The last round printed so many bytes, at the front of the output, and the system took so many of them.
+#[derive(Drop)]
 struct Run {
     progress: Progress,
+    ranges: [u64; RANGE_WORDS],
+    table: [u64; TABLE_WORDS],
+    operations: [u64; OPERATION_WORDS],
+    input: [u8; INPUT_BYTES],
     from: usize,
     to: usize,
     last: bool,
+    output: [u8; OUTPUT_BYTES],
     printed: usize,
     written: usize,
-    end: End,
-}
-
-// What a read brought.
-#[derive(Clone, Copy)]
-enum Got {
-    Bytes(usize),
-    Nothing,
-    Failure,
-}
-
-// How many bytes the system took, and whether these are all.
-#[derive(Clone, Copy)]
-struct Wrote {
-    bytes: usize,
-    all: bool,
-}
-
-// What a read's answer says, where there was room for some bytes: an error is a failure, and none is the end.
-fn brought(answer: io::Result<usize>, rest: &[u8]) -> Got
-    ensures { result ≡ got_of answer (length rest.now) }
-{
-    let Ok(count) = answer else {
-        return Got::Failure;
-    };
-    let n = count.min(rest.len());
-    if n == 0 {
-        return Got::Nothing;
-    }
-    Got::Bytes(n)
 }
 
 // Reads once, behind the bytes that are kept. There is room for one more, so that no byte means the end of the input.
-fn read_behind(mut stdin: Stdin, input: &mut [u8], kept: usize) -> Got
+fn read_behind(mut stdin: Stdin, input: &mut [u8], kept: usize) -> Result<usize, Failure>
     requires { kept < length input.old }
     ensures { Brings input.old kept result input.new }
 {
-    let answer = stdin.read(&mut input[kept..]);
-    brought(answer, &input[kept..])
+    stdin.read(&mut input[kept..]).map_err(|_| Failure::Read)
 }
 
-// Keeps the unread bytes, and reads more behind them.
-fn refill(stdin: Stdin, input: &mut [u8], run: Run) -> Run
-    requires { (run.from ≤ run.to) × (run.to < run.from + length input.old) × (run.to ≤ length input.old) }
-    ensures { Refilled run input.old result input.new }
-{
-    let progress = run.progress;
-    let kept = script::keep_unread(input, run.from, run.to);
-    match read_behind(stdin, input, kept) {
-        Got::Bytes(n) => Run {
-            progress,
-            from: 0,
-            to: kept + n,
-            last: false,
-            printed: run.printed,
-            written: run.written,
-            end: End::Going,
-        },
-        Got::Nothing => Run {
-            progress,
-            from: 0,
-            to: kept,
-            last: true,
-            printed: run.printed,
-            written: run.written,
-            end: End::Going,
-        },
-        Got::Failure => Run {
-            progress,
-            from: 0,
-            to: kept,
-            last: false,
-            printed: run.printed,
-            written: run.written,
-            end: End::ReadFailed,
-        },
-    }
-}
-
-// Lends the unread bytes, and puts what they give into the output.
-fn print(
-    run: Run,
-    ranges: &mut [u64],
-    table: &mut [u64],
-    operations: &mut [u64],
-    input: &[u8],
-    output: &mut [u8],
-) -> Turned
-    requires { Held run operations.old (length input.now) × (run.progress.place + length input.now < 2 ^ 64) }
-    ensures { Advances run.progress ranges.old table.old operations.old (unread run input.now) run.last output.old result ranges.new table.new operations.new output.new }
-{
-    let progress = run.progress;
-    let from = run.from;
-    let to = run.to;
-    let last = run.last;
-    script::advance(
-        progress,
-        ranges,
-        table,
-        operations,
-        &input[from..to],
-        last,
-        output,
-    )
-}
-
-// Hands over bytes, of which there are some; the system may take fewer, and takes none where it fails.
-fn write_some(mut stdout: Stdout, text: &[u8]) -> usize
+// Hands over bytes, of which there are some; the system may take fewer. A write that takes none has failed.
+fn write_some(mut stdout: Stdout, text: &[u8]) -> Result<usize, Failure>
     requires { 0 < length text.now }
-    ensures { result ≤ length text.now }
+    ensures { MatchResult result (λ n. (0 < n) × (n ≤ length text.now)) (λ f. f ≡ Write) }
 {
     match stdout.write(text) {
-        Ok(n) => n,
-        Err(_) => 0,
+        Ok(0) | Err(_) => Err(Failure::Write),
+        Ok(n) => Ok(n),
     }
 }
 
-// Writes the output up to `end`. A write that takes nothing has failed.
-fn write_out(stdout: Stdout, output: &[u8], end: usize) -> Wrote
-    requires { end ≤ length output.now }
-    ensures { Writes end result }
-{
-    let mut at: usize = 0;
-    while at < end {
-        let n = write_some(stdout, &output[at..end]);
-        if n == 0 {
-            return Wrote {
-                bytes: at,
-                all: false,
-            };
+impl Run {
+    // Before the first byte of a script.
+    fn new() -> Run
+        ensures { result ≡ start_run result.input result.output }
+    {
+        Run {
+            progress: script::start(),
+            ranges: [0; RANGE_WORDS],
+            table: [0; TABLE_WORDS],
+            operations: [0; OPERATION_WORDS],
+            input: [0; INPUT_BYTES],
+            from: 0,
+            to: 0,
+            last: false,
+            output: [0; OUTPUT_BYTES],
+            printed: 0,
+            written: 0,
         }
-        at += n;
     }
-    Wrote {
-        bytes: at,
-        all: true,
-    }
-}
 
-// The run behind the bytes that were taken.
-fn turned(run: Run, t: Turned) -> Run
-    requires { run.from + t.taken < 2 ^ 64 }
-    ensures { result ≡ behind run t }
-{
-    let progress = t.progress;
-    Run {
-        progress,
-        from: run.from + t.taken,
-        to: run.to,
-        last: run.last,
-        printed: 0,
-        written: 0,
-        end: End::Going,
+    // Lends the unread bytes, and puts what they give at the front of the output.
+    fn print(&mut self)
+        requires { Held self.old × (self.old.progress.place + length self.old.input < 2 ^ 64) }
+        ensures { Printed self.old self.new }
+    {
+        let input: &[u8] = &self.input;
+        let turned = script::advance(
+            self.progress,
+            &mut self.ranges,
+            &mut self.table,
+            &mut self.operations,
+            &input[self.from..self.to],
+            self.last,
+            &mut self.output,
+        );
+        self.progress = turned.progress;
+        self.from += turned.taken;
+        self.printed = turned.end;
     }
-}
 
-// The run as a round leaves it, which printed and wrote so many bytes.
-fn stands(run: Run, printed: usize, written: usize, end: End) -> Run
-    ensures { result ≡ standing run printed written end }
-{
-    let progress = run.progress;
-    Run {
-        progress,
-        from: run.from,
-        to: run.to,
-        last: run.last,
-        printed,
-        written,
-        end,
+    // Hands over the rest of what was printed, until the system has taken all of it.
+    fn write_out(&mut self, stdout: Stdout) -> Result<(), Failure>
+        requires { (self.old.written ≤ self.old.printed) × (self.old.printed ≤ length self.old.output) }
+        ensures { Writes self.old result self.new }
+    {
+        let end = self.printed;
+        while self.written < end {
+            self.written += write_some(stdout, &self.output[self.written..end])?;
+        }
+        Ok(())
     }
-}
 
-// Prints what the bytes at hand give, writes it, and reads more where the program waits for them.
-fn round(
-    stdin: Stdin,
-    stdout: Stdout,
-    ranges: &mut [u64],
-    table: &mut [u64],
-    operations: &mut [u64],
-    input: &mut [u8; INPUT_BYTES],
-    output: &mut [u8; OUTPUT_BYTES],
-    run: Run,
-) -> Run
-    requires { Held run operations.old (length input.old) }
-    ensures { Carries run ranges.old table.old operations.old input.old
-        result ranges.new table.new operations.new input.new output.new }
-{
-    if MOST_PLACE <= run.progress.place {
-        return stands(run, 0, 0, End::TooLong);
+    // Keeps the unread bytes, and reads more behind them. A read that brings none tells that they are the last.
+    fn refill(&mut self, stdin: Stdin) -> Result<(), Failure>
+        requires { (self.old.from ≤ self.old.to) × (self.old.to < self.old.from + length self.old.input) × (self.old.to ≤ length self.old.input) }
+        ensures { Refilled self.old result self.new }
+    {
+        let kept = script::keep_unread(&mut self.input, self.from, self.to);
+        self.from = 0;
+        self.to = kept;
+        let count = read_behind(stdin, &mut self.input, kept)?;
+        self.to += count;
+        self.last = count == 0;
+        Ok(())
     }
-    let t = print(run, ranges, table, operations, input, output);
-    let end = t.end;
-    let next = turned(run, t);
-    let wrote = write_out(stdout, output, end);
-    if !wrote.all {
-        return stands(next, end, wrote.bytes, End::WriteFailed);
-    }
-    if OUTPUT_BYTES < end + text::MOST_OPERATION {
-        return stands(next, end, wrote.bytes, End::Going);
-    }
-    if next.progress.stopped {
-        return stands(next, end, wrote.bytes, End::Done);
-    }
-    refill(stdin, input, stands(next, end, wrote.bytes, End::Going))
-}
 
-// Rounds on buffers that are together below 64 KiB, until one ends the run. No script has as many as are counted.
-fn follow(
-    stdin: Stdin,
-    stdout: Stdout,
-    ranges: &mut [u64],
-    table: &mut [u64],
-    operations: &mut [u64],
-    input: &mut [u8; INPUT_BYTES],
-    output: &mut [u8; OUTPUT_BYTES],
-) -> End
-    requires { (ranges.old ≡ start.lent.ranges.words) × (table.old ≡ start.lent.table.words) × (operations.old ≡ start.operations) × Below64KiB ranges.old table.old operations.old input.old output.old }
-    ensures { Ran result ranges.new table.new operations.new input.new }
-{
-    let mut run = Run {
-        progress: script::start(),
-        from: 0,
-        to: 0,
-        last: false,
-        printed: 0,
-        written: 0,
-        end: End::Going,
-    };
-    let mut rounds = u64::MAX;
-    while 0 < rounds {
-        run = round(stdin, stdout, ranges, table, operations, input, output, run);
-        let end = run.end;
-        let End::Going = end else {
-            return end;
-        };
-        rounds -= 1;
+    // Prints what the bytes at hand give, writes it, and reads more where the program waits for them. It breaks where the
+    // program is done.
+    fn round(&mut self, stdin: Stdin, stdout: Stdout) -> Result<ControlFlow<()>, Failure>
+        requires { Held self.old }
+        ensures { Carries self.old result self.new }
+    {
+        self.printed = 0;
+        self.written = 0;
+        if MOST_PLACE <= self.progress.place {
+            return Err(Failure::TooLong);
+        }
+        self.print();
+        self.write_out(stdout)?;
+        if OUTPUT_BYTES < self.printed + text::MOST_OPERATION {
+            return Ok(ControlFlow::Continue(()));
+        }
+        if self.progress.stopped {
+            return Ok(ControlFlow::Break(()));
+        }
+        self.refill(stdin)?;
+        Ok(ControlFlow::Continue(()))
     }
-    End::TooLong
-}
 
-// Why a run ended before the script did, at the front of a buffer.
-fn put_message(out: &mut [u8; OUTPUT_BYTES], end: End) -> usize
-    ensures { Put out.old 0 (ascii (message end)) out.new result 64 }
-{
-    match end {
-        End::Going => 0,
-        End::Done => 0,
-        End::ReadFailed => text::put_bytes(out, 0, b"vmbind: cannot read standard input\n"),
-        End::WriteFailed => text::put_bytes(out, 0, b"vmbind: cannot write standard output\n"),
-        End::TooLong => text::put_bytes(out, 0, b"vmbind: the script is too long\n"),
+    // Rounds on buffers that are together below 64 KiB, until one ends the run. No script has as many as are counted.
+    fn follow(&mut self, stdin: Stdin, stdout: Stdout) -> Result<(), Failure>
+        requires { (self.old ≡ start_run self.old.input self.old.output) × Below64KiB self.old.ranges self.old.table self.old.operations self.old.input self.old.output }
+        ensures { Ran result self.new }
+    {
+        for _ in 0..u64::MAX {
+            if self.round(stdin, stdout)?.is_break() {
+                return Ok(());
+            }
+        }
+        Err(Failure::TooLong)
     }
 }
 
 fn main(rt: HostRuntime) {
-    let mut ranges = [0u64; 128];
-    let mut table = [0u64; 1024];
-    let mut operations = [0u64; 3598];
-    let mut input = [0u8; INPUT_BYTES];
-    let mut output = [0u8; OUTPUT_BYTES];
-    let end = follow(
-        rt.stdin(),
-        rt.stdout(),
-        &mut ranges,
-        &mut table,
-        &mut operations,
-        &mut input,
-        &mut output,
-    );
-    let n = put_message(&mut output, end);
-    let _ = rt.stderr().write_all(&output[..n]);
+    let mut run = Run::new();
+    if let Err(failure) = run.follow(rt.stdin(), rt.stdout()) {
+        let _ = eprint!(rt; "{failure}");
+    }
 }
