@@ -1,6 +1,6 @@
 -- From what the steps of a request answer to what it leaves.
 -- Assumes nothing.
-use mathlib.Core.Path.{◌≡◌, ap, ◌∙◌}
+use mathlib.Core.Path.{◌≡◌, ap, subst, ◌∙◌}
 use mathlib.Core.Bool.{true, false}
 use mathlib.Core.List.{List, ◌++◌, flat_map}
 use Prim.Native.Nat.{ℕ, ◌+◌, ◌-◌, ◌*◌, ◌/◌, ◌≤◌, ◌<◌}
@@ -10,7 +10,6 @@ use lib.ListN.{length, drop}
 use borrow.Author.Tests.{le-leb, lt-leb}
 use Rattle.model.specs.declared.Mapping.{Mapping}
 use Rattle.model.specs.declared.Request.{Request}
-use Rattle.model.specs.Rules.{stop}
 use Rattle.model.specs.Rows.{refused, answered, decide}
 use Rattle.model.specs.Table.{mappings_in, written}
 use Rattle.model.specs.Cut.{new as mapped, after, operations}
@@ -19,30 +18,31 @@ use Rattle.model.specs.Layout.{words_of_operation}
 use Rattle.model.proofs.Operations.{operations-words}
 use Rattle.words.specs.Words.{stored}
 use Rattle.words.proofs.Stored.{stored_is}
-use Rattle.table.specs.Places.{lent, between, first_where, starts_behind, ends_behind}
+use Rattle.table.specs.Places.{lent, between}
 use Rattle.table.specs.Splice.{spliced}
 use Rattle.cut.specs.Operations.{operations_for}
 use Rattle.cut.proofs.Written.{length-operations}
 use Rattle.table.proofs.Between.{length-between}
-use Rattle.change.specs.Change.{Ready, Placed, changed}
+use Rattle.change.specs.Change.{BehindHits, changed}
 use Rattle.change.proofs.Hits.{after_places, operations_places, length_places}
 
--- what the two searches answer are the places
-abbrev pub placed : {r : Request} {ws : List ℕ} {n lo hi last : ℕ} → Ready r (lent ws n) → lo ≡ first_where (ends_behind r.address) (mappings_in n ws)
-    → last ≡ stop r - 1 → hi ≡ lo + first_where (starts_behind last) (drop lo (mappings_in n ws)) → Placed r ws lo hi
-placed {n = n} g e f d = record { count = n; table = g.table; not_empty = g.not_empty; stop_most = g.stop_most; low = e; high = rw f at d }
-
-module _ {r : Request} {ws : List ℕ} {lo hi : ℕ} (p : Placed r ws lo hi) (os : List ℕ)
+module _ {r : Request} {ws : List ℕ} {n lo hi : ℕ} (hits : BehindHits r (lent ws n) lo hi) (os : List ℕ)
     {new : List Mapping} (e : new ≡ after r (between ws lo hi)) {c : ℕ} (d : c ≡ length new) where
-  abbrev n : ℕ
-  n = p.count
+  abbrev ms : List Mapping
+  ms = mappings_in n ws
 
   -- the count afterwards
   abbrev count : ℕ
   count = lo + c + (n - hi)
 
-  counted : length (after r (mappings_in n ws)) ≡ count
-  counted = length_places p ∙ rw (d, e)
+  counted : length (after r ms) ≡ count
+  counted = subst (λ (k : ℕ). length (after r (mappings_in k ws)) ≡ lo + length (after r (between ws lo hi)) + (k - hi)) hits.count (length_places hits.placed) ∙ rw (d, e)
+
+  placed_after : after r ms ≡ spliced ms lo hi (after r (between ws lo hi))
+  placed_after = subst (λ (k : ℕ). after r (mappings_in k ws) ≡ spliced (mappings_in k ws) lo hi (after r (between ws lo hi))) hits.count (after_places hits.placed)
+
+  placed_operations : operations r ms ≡ operations_for r (between ws lo hi)
+  placed_operations = subst (λ (k : ℕ). operations r (mappings_in k ws) ≡ operations_for r (between ws lo hi)) hits.count (operations_places hits.placed)
 
   abbrev written_out : List Operation
   written_out = operations_for r (between ws lo hi)
@@ -55,35 +55,35 @@ module _ {r : Request} {ws : List ℕ} {lo hi : ℕ} (p : Placed r ws lo hi) (os
   fits_places f h = omega (arith, number f, h)
 
   -- rows 11 and 16, by the count and the number
-  has_room : count ≤ length ws / 4 → leb (length (after r (mappings_in n ws))) (length ws / 4) ≡ true
-  has_room h = le-leb (length (after r (mappings_in n ws))) (length ws / 4) (omega (arith, counted, h))
+  has_room : count ≤ length ws / 4 → leb (length (after r ms)) (length ws / 4) ≡ true
+  has_room h = le-leb (length (after r ms)) (length ws / 4) (omega (arith, counted, h))
 
-  same_number : length (operations r (mappings_in n ws)) ≡ length written_out
-  same_number = ap length (operations_places p)
+  same_number : length (operations r ms) ≡ length written_out
+  same_number = ap length placed_operations
 
   pub full : length ws / 4 < count → changed r (lent ws n) os ≡ record { reply = refused 11 0; table = ws; operations = os }
   unfolding changed decide
   full h =
-      let q : leb (length (after r (mappings_in n ws))) (length ws / 4) ≡ false = lt-leb (length (after r (mappings_in n ws))) (length ws / 4) (omega (arith, counted, h)) in
+      let q : leb (length (after r ms)) (length ws / 4) ≡ false = lt-leb (length (after r ms)) (length ws / 4) (omega (arith, counted, h)) in
       simp q
 
   pub short : {k : ℕ} → count ≤ length ws / 4 → k ≡ hi - lo + length (mapped r) → length os < 14 * k
       → changed r (lent ws n) os ≡ record { reply = refused 16 0; table = ws; operations = os }
   unfolding changed decide
   short h f k =
-      let w : leb (14 * length (operations r (mappings_in n ws))) (length os) ≡ false =
-      lt-leb (14 * length (operations r (mappings_in n ws))) (length os) (omega (arith, same_number, number f, k)) in
+      let w : leb (14 * length (operations r ms)) (length os) ≡ false =
+      lt-leb (14 * length (operations r ms)) (length os) (omega (arith, same_number, number f, k)) in
       simp (has_room h, w)
 
   pub carried_out : {k : ℕ} {us vs : List ℕ} → count ≤ length ws / 4 → k ≡ hi - lo + length (mapped r) → 14 * k ≤ length os
       → us ≡ stored os 0 (flat_map words_of_operation (operations_for r (between ws lo hi)))
-      → vs ≡ written (length ws) (spliced (mappings_in n ws) lo hi new)
+      → vs ≡ written (length ws) (spliced ms lo hi new)
       → changed r (lent ws n) os ≡ record { reply = answered (record { operations = k; count = count }); table = vs; operations = us }
   unfolding changed decide
   carried_out {k} {us} {vs} h f m wrote table =
-      let w : leb (14 * length (operations r (mappings_in n ws))) (length os) ≡ true =
-      le-leb (14 * length (operations r (mappings_in n ws))) (length os) (omega (arith, same_number, number f, m)) in
+      let w : leb (14 * length (operations r ms)) (length os) ≡ true =
+      le-leb (14 * length (operations r ms)) (length os) (omega (arith, same_number, number f, m)) in
       let l : 0 + length (flat_map words_of_operation written_out) ≡ 14 * length written_out = omega (arith, operations-words written_out) in
       let words : us ≡ flat_map words_of_operation written_out ++ drop (14 * length written_out) os = wrote ∙ stored_is os 0 (flat_map words_of_operation written_out) ∙ rw l in
       let d : k ≡ length written_out = omega (arith, number f) in
-      simp (has_room h, w) (rw (counted, d, words, table, e, ← after_places p, operations_places p))
+      simp (has_room h, w) (rw (counted, d, words, table, e, ← placed_after, placed_operations))

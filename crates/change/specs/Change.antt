@@ -34,6 +34,13 @@ pub record Placed (r : Request) (ws : List ℕ) (lo hi : ℕ) : Type 0 where
   pub low : lo ≡ first_where (ends_behind r.address) (mappings_in count ws)
   pub high : hi ≡ lo + first_where (starts_behind (stop r - 1)) (drop lo (mappings_in count ws))
 
+-- hi is the place behind the mappings of the table t that r hits, of which lo is the first
+pub record BehindHits (r : Request) (t : Table) (lo hi : ℕ) : Type 0 where
+  pub placed : Placed r t.words lo hi
+  pub count : placed.count ≡ t.count
+  pub low : lo ≤ hi
+  pub high : hi ≤ t.count
+
 -- what a request does to a table: how many operations and mappings, or a refusal; and the words left
 pub record Changed : Type 0 where
   pub reply : Reply Made

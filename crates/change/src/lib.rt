@@ -7,7 +7,7 @@ ghost use Rattle.model.specs.Cut.{prepend, new, after};
 ghost use Rattle.table.specs.Places.{lent, between};
 ghost use Rattle.table.specs.Splice.{mappings_of};
 ghost use Rattle.model.specs.Calls.{reply_of};
-ghost use Rattle.change.specs.Change.{Ready, FirstBehind, Placed, changed};
+ghost use Rattle.change.specs.Change.{Ready, FirstBehind, Placed, BehindHits, changed};
 
 use cut::Cut;
 use model::{Mapping, Refusal, Request};
@@ -32,6 +32,15 @@ fn new_or_none(r: Request) -> Mapping
             ..cut::new_mapping(r)
         },
     }
+}
+
+// The place behind the mappings that a request hits, of which the first is at place `lo`: there the first stands that starts
+// behind the request's last byte.
+fn behind_hits(r: Request, t: &[u64], count: usize, lo: usize) -> usize
+    requires { Ready r (lent t.now count) × FirstBehind r.address (lent t.now count) lo }
+    ensures { BehindHits r (lent t.now count) lo result }
+{
+    table::first_starting_behind(t, lo, count, cut::last_byte(r))
 }
 
 // What takes the place of the mappings hit: what is left of the first below the range, the new mapping, what is left of the
@@ -69,7 +78,7 @@ pub fn change(
     requires { Ready r (lent t.old count) × FirstBehind r.address (lent t.old count) lo }
     ensures { changed r (lent t.old count) operations.old ≡ record { reply = reply_of result; table = t.new; operations = operations.new } }
 {
-    let hi = table::first_starting_behind(t, lo, count, cut::last_byte(r));
+    let hi = behind_hits(r, t, count, lo);
     let hit = Cut { request: r, lo, hi };
     let new = replacement(hit, t);
     let after = lo + table::replacement_length(new) + (count - hi);
