@@ -1,128 +1,142 @@
--- The entries of a mapping level by level, and their number.
+-- The entries of a mapping size by size, and their number.
 -- Assumes nothing.
-use mathlib.Core.Path.{◌≡◌, refl, sym, ap, ◌∙◌}
+use mathlib.Core.Path.{◌≡◌, refl, sym, ap, subst, ◌∙◌}
 use mathlib.Core.Logic.{◌⊎◌, inl, inr}
-use mathlib.Core.Bool.{Bool, true, false, ◌||◌, not}
-use mathlib.Core.List.{◌++◌}
-use Prim.Native.Nat.{ℕ, zero, suc, ◌+◌, ◌-◌, ◌*◌, ◌/◌, ◌<◌}
+use mathlib.Core.Bool.{Bool, true, false, ◌&&◌}
+use mathlib.Core.List.{◌∷◌, ◌++◌}
+use Prim.Native.Nat.{ℕ, ◌+◌, ◌*◌, ◌/◌, ◌<◌}
 use native.Mathlib.Nat.{div-eq_of_lt}
 use native.Mathlib.Omega.{arith}
-use lib.Dec.{ltb}
+use lib.Dec.{leb, ltb}
 use lib.ListN.{length}
-use borrow.Author.Tests.{ltb-true}
+use borrow.Author.Tests.{ltb-true, leb-false}
+use Rattle.std.specs.Prelude.{Option, None, Some}
 use Rattle.model.specs.declared.Mapping.{Mapping}
 use Rattle.model.specs.Rows.{choose}
 use Rattle.pages.specs.Pages.{lower, middle, upper, congruent, paged, cover, entry_count}
+use Rattle.pages.specs.Claims.{Ladder, least}
+use Rattle.pages.proofs.Level.{address_first_cut, first_cut_last_cut, last_cut-end}
 use Rattle.pages.proofs.Counts.{count-length, length_three}
+use Rattle.pages.proofs.Tiles.{Base}
+use Rattle.pages.proofs.AnyLadder.{base}
 use Rattle.pages.proofs.Small.{cover_small}
 use Rattle.pages.proofs.Fewer.{count_less}
-use Rattle.entries.specs.Levels.{size_at, level_for, sizes_below, cover_to, count_to, whole_pages, Listable}
-use Rattle.entries.proofs.Levels.{cuts, ladder_at, base_at}
+use Rattle.entries.specs.declared.PageSize.{PageSize}
+use Rattle.entries.specs.declared.PageSize.TheVariants.{Page4K, Page2M, Page1G}
+use Rattle.entries.specs.Sizes.{bytes_of, largest_in, below, sizes_below, cover_to, count_to, whole_pages, Listable}
+use Rattle.entries.proofs.Sizes.{size_some, ladder_at, least_at, none_below, next_below}
 
-module _ (m : Mapping) where
-  pub cover-least : (n : ℕ) → n ≡ 0 → paged 4096 m ≡ cover_to n m
+-- a mapping that lists has whole pages of the least of the sizes
+base_of : (s : PageSize) (m : Mapping) → Listable m → Base (least (bytes_of s) (sizes_below s)) m
+base_of s m k = subst (λ (z : ℕ). Base z m) (sym (least_at s)) (base 4096 m (k.multiples.0, (k.multiples.1, (k.multiples.2, tt))))
+
+pub cover-least : (s : PageSize) (m : Mapping) → below s ≡ None → paged (bytes_of s) m ≡ cover_to s m
+unfolding cover_to cover
+cover-least s m e = rw (none_below s e)
+
+-- ── a mapping that may have a page of a size: it is cut ──
+
+-- the code's test
+abbrev MayHave : PageSize → Mapping → Bool → Type 0
+MayHave s m t = (leb (bytes_of s) m.size && congruent (bytes_of s) m) ≡ t
+
+both : (a b : Bool) → (a && b) ≡ true → b ≡ true
+both true b e = e
+both false true e = refl
+both false false e = e
+
+neither : (a b : Bool) → (a && b) ≡ false → (a ≡ false) ⊎ (b ≡ false)
+neither true b e = inr e
+neither false b e = inl refl
+
+pub agrees : (s : PageSize) (m : Mapping) → MayHave s m true → congruent (bytes_of s) m ≡ true
+agrees s m e = both (leb (bytes_of s) m.size) (congruent (bytes_of s) m) e
+
+module _ (s t : PageSize) (m : Mapping) (next : below s ≡ Some t) where
+  pub parts-cover : {p q r : Mapping} → p ≡ lower (bytes_of s) m → q ≡ middle (bytes_of s) m → r ≡ upper (bytes_of s) m
+      → congruent (bytes_of s) m ≡ true → cover_to t p ++ (paged (bytes_of s) q ++ cover_to t r) ≡ cover_to s m
   unfolding cover_to cover
-  cover-least n e = sym (ap (λ (k : ℕ). cover (size_at k) (sizes_below k) m) e)
+  parts-cover low whole high e = rw (low, whole, high, next_below s next, e)
 
-  cover-apart : (n : ℕ) → (n ≡ 0 → ⊥) → congruent (size_at n) m ≡ false → cover_to (n - 1) m ≡ cover_to n m
+  -- ── one that has none: all of it is left to the smaller sizes ──
+
+  cover-apart : congruent (bytes_of s) m ≡ false → cover_to t m ≡ cover_to s m
   unfolding cover_to cover
-  cover-apart zero z e = absurd (z refl)
-  cover-apart (suc n) z e = let d : suc n - 1 ≡ n = omega arith in rw (d, e)
+  cover-apart e = rw (next_below s next, e)
 
-  cover-next : (n : ℕ) → (n ≡ 0 → ⊥) → congruent (size_at n) m ≡ true
-      → cover_to (n - 1) (lower (size_at n) m) ++ (paged (size_at n) (middle (size_at n) m) ++ cover_to (n - 1) (upper (size_at n) m)) ≡ cover_to n m
-  unfolding cover_to cover
-  cover-next zero z e = absurd (z refl)
-  cover-next (suc n) z e = let d : suc n - 1 ≡ n = omega arith in rw (d, e)
-
--- the same of parts that are given otherwise
-module _ (m : Mapping) {p q r : Mapping} (n : ℕ) (low : p ≡ lower (size_at n) m) (whole : q ≡ middle (size_at n) m) (high : r ≡ upper (size_at n) m)
-    (some : n ≡ 0 → ⊥) (e : congruent (size_at n) m ≡ true) where
-  pub parts-cover : cover_to (n - 1) p ++ (paged (size_at n) q ++ cover_to (n - 1) r) ≡ cover_to n m
-  parts-cover = rw (low, whole, high) (cover-next m n some e)
-
-  pub parts-length : length (cover_to (n - 1) p) + (length (paged (size_at n) q) + length (cover_to (n - 1) r)) ≡ length (cover_to n m)
-  parts-length = sym (length_three (cover_to (n - 1) p) (paged (size_at n) q) (cover_to (n - 1) r)) ∙ ap length parts-cover
-
--- ── a mapping that has no page of a level ──
-
--- in the code's words: it is smaller, or address and offset differ by no multiple of the size
-abbrev Below : ℕ → Mapping → Bool → Type 0
-Below n m t = (ltb m.size (size_at n) || not (congruent (size_at n) m)) ≡ t
-
-below_or : (a b : Bool) → (a || not b) ≡ true → (a ≡ true) ⊎ (b ≡ false)
-below_or true b e = inl refl
-below_or false false e = inr refl
-below_or false true e = inl e
-
-pub agrees : (n : ℕ) (m : Mapping) → Below n m false → congruent (size_at n) m ≡ true
-agrees n m e = go (ltb m.size (size_at n)) (congruent (size_at n) m) e
-  where
-    go : (a b : Bool) → (a || not b) ≡ false → b ≡ true
-    go a true e = refl
-    go false false e = sym e
-    go true false e = sym e
-
-module _ (m : Mapping) (k : Listable m) where
-  cover-smaller : (n : ℕ) → (n ≡ 0 → ⊥) → m.size < size_at n → cover_to (n - 1) m ≡ cover_to n m
+  pub cover-smaller : Listable m → m.size < bytes_of s → cover_to t m ≡ cover_to s m
   unfolding cover_to
-  cover-smaller zero z h = absurd (z refl)
-  cover-smaller (suc n) z h =
-      let d : suc n - 1 ≡ n = omega arith in
-      rw d (sym (cover_small (size_at (suc n)) (size_at n) (sizes_below n) m (ladder_at (suc n)) (base_at n m k) h))
+  cover-smaller k h =
+      let n = next_below s next in
+      let l : Ladder (bytes_of s) (bytes_of t ∷ sizes_below t) = subst (Ladder (bytes_of s)) n (ladder_at s) in
+      rw n (sym (cover_small (bytes_of s) (bytes_of t) (sizes_below t) m l (base_of t m k) h))
 
-  pub cover-below : (n : ℕ) → (n ≡ 0 → ⊥) → Below n m true → cover_to (n - 1) m ≡ cover_to n m
-  cover-below n z e = go (below_or (ltb m.size (size_at n)) (congruent (size_at n) m) e)
+  pub cover-below : Listable m → MayHave s m false → cover_to t m ≡ cover_to s m
+  cover-below k e = go (neither (leb (bytes_of s) m.size) (congruent (bytes_of s) m) e)
     where
-      go : (ltb m.size (size_at n) ≡ true) ⊎ (congruent (size_at n) m ≡ false) → cover_to (n - 1) m ≡ cover_to n m
-      go (inl h) = cover-smaller n z (ltb-true _ _ h)
-      go (inr h) = cover-apart m n z h
+      go : (leb (bytes_of s) m.size ≡ false) ⊎ (congruent (bytes_of s) m ≡ false) → cover_to t m ≡ cover_to s m
+      go (inl h) = cover-smaller k (leb-false _ _ h)
+      go (inr h) = cover-apart h
 
-  -- so it is as well to begin at the highest level that has one
-  pub cover_level : cover_to (level_for m.size) m ≡ cover_to 2 m
-  cover_level = go (ltb m.size 2097152) (ltb m.size 1073741824) refl refl
-    where
-      some : (n : ℕ) → suc n ≡ 0 → ⊥
-      some n e = omega arith
+-- what the code's calls tell where it is cut: the entries of the three parts, and their number
+module _ (s : PageSize) (m : Mapping) {o : Option PageSize} {t : PageSize} {b : Bool} {p q r : Mapping} (d : o ≡ below s) (is : o ≡ Some t)
+    (test : b ≡ (leb (bytes_of s) m.size && congruent (bytes_of s) m)) (may : b ≡ true)
+    (low : p ≡ lower (bytes_of s) m) (whole : q ≡ middle (bytes_of s) m) (high : r ≡ upper (bytes_of s) m) where
+  pub cut-cover : cover_to t p ++ (paged (bytes_of s) q ++ cover_to t r) ≡ cover_to s m
+  cut-cover = parts-cover s t m (sym d ∙ is) low whole high (agrees s m (sym test ∙ may))
 
-      go : (t u : Bool) → ltb m.size 2097152 ≡ t → ltb m.size 1073741824 ≡ u → cover_to (choose t 0 (choose u 1 2)) m ≡ cover_to 2 m
-      go true u p q =
-          let h : m.size < 2097152 = ltb-true _ _ p in
-          cover-smaller 1 (some 0) h ∙ cover-smaller 2 (some 1) (omega (arith, h))
-      go false true p q = cover-smaller 2 (some 1) (ltb-true _ _ q)
-      go false false p q = refl
+  pub cut-length : length (cover_to t p) + (length (paged (bytes_of s) q) + length (cover_to t r)) ≡ length (cover_to s m)
+  cut-length = sym (length_three (cover_to t p) (paged (bytes_of s) q) (cover_to t r)) ∙ ap length cut-cover
+
+-- so it is as well to begin at the largest size that has one
+pub cover-largest_in : (m : Mapping) → Listable m → cover_to (largest_in m.size) m ≡ cover_to Page1G m
+cover-largest_in m k = go (ltb m.size 2097152) (ltb m.size 1073741824) refl refl
+  where
+    go : (t u : Bool) → ltb m.size 2097152 ≡ t → ltb m.size 1073741824 ≡ u
+        → cover_to (choose t Page4K (choose u Page2M Page1G)) m ≡ cover_to Page1G m
+    go true u p q =
+        let h : m.size < 2097152 = ltb-true _ _ p in
+        cover-smaller Page2M Page4K m refl k h ∙ cover-smaller Page1G Page2M m refl k (omega (arith, h))
+    go false true p q = cover-smaller Page1G Page2M m refl k (ltb-true _ _ q)
+    go false false p q = refl
 
 -- ── the number of entries ──
 
-pub count-cover : (n : ℕ) (m : Mapping) → count_to n m ≡ length (cover_to n m)
+pub count-cover : (s : PageSize) (m : Mapping) → count_to s m ≡ length (cover_to s m)
 unfolding count_to cover_to
-count-cover n m = count-length (size_at n) (sizes_below n) m
+count-cover s m = count-length (bytes_of s) (sizes_below s) m
 
-module _ (n : ℕ) (m : Mapping) where
-  pub whole_some : congruent (size_at n) m ≡ true → (middle (size_at n) m).size / size_at n ≡ whole_pages n m
+module _ (s : PageSize) (m : Mapping) where
+  pub whole_some : MayHave s m true → (middle (bytes_of s) m).size / bytes_of s ≡ whole_pages s m
   unfolding whole_pages
-  whole_some e = rw e
+  whole_some e = rw (agrees s m e)
 
-  pub whole_none : Below n m true → 0 ≡ whole_pages n m
+  pub whole_none : MayHave s m false → 0 ≡ whole_pages s m
   unfolding whole_pages
-  whole_none e = go (below_or (ltb m.size (size_at n)) (congruent (size_at n) m) e)
+  whole_none e = go (neither (leb (bytes_of s) m.size) (congruent (bytes_of s) m) e)
     where
       either : (t : Bool) (x : ℕ) → x ≡ 0 → 0 ≡ choose t x 0
       either true x d = sym d
       either false x d = refl
 
-      go : (ltb m.size (size_at n) ≡ true) ⊎ (congruent (size_at n) m ≡ false)
-          → 0 ≡ choose (congruent (size_at n) m) ((middle (size_at n) m).size / size_at n) 0
+      go : (leb (bytes_of s) m.size ≡ false) ⊎ (congruent (bytes_of s) m ≡ false)
+          → 0 ≡ choose (congruent (bytes_of s) m) ((middle (bytes_of s) m).size / bytes_of s) 0
       go (inl h) =
-          let c = cuts n m in
-          either (congruent (size_at n) m) _ (div-eq_of_lt (omega (arith, ltb-true m.size (size_at n) h, c.low, c.between, c.high)))
+          let some = size_some s in
+          either (congruent (bytes_of s) m) _ (div-eq_of_lt (omega (
+            arith,
+            leb-false (bytes_of s) m.size h,
+            address_first_cut (bytes_of s) m some,
+            first_cut_last_cut (bytes_of s) m some,
+            last_cut-end (bytes_of s) m some,
+          )))
       go (inr h) = rw h
 
 -- a page of 2 MiB stands for 512 of 4 KiB, and one of 1 GiB for 512 of 2 MiB
-pub count-whole : (m : Mapping) → Listable m → count_to 2 m + 511 * (whole_pages 1 m + whole_pages 2 m) ≡ m.size / 4096
+pub count-whole : (m : Mapping) → Listable m → count_to Page1G m + 511 * (whole_pages Page2M m + whole_pages Page1G m) ≡ m.size / 4096
 unfolding count_to whole_pages entry_count
 count-whole m k = omega (
   arith,
-  count_less 2097152 4096 (sizes_below 0) m (ladder_at 1) (base_at 0 m k),
-  count_less 1073741824 2097152 (sizes_below 1) m (ladder_at 2) (base_at 1 m k),
+  count_less 2097152 4096 (sizes_below Page4K) m (ladder_at Page2M) (base_of Page4K m k),
+  count_less 1073741824 2097152 (sizes_below Page2M) m (ladder_at Page1G) (base_of Page2M m k),
 )

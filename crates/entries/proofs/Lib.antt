@@ -1,4 +1,5 @@
-pub mod Levels
+pub mod Sizes
+pub mod Parts
 pub mod Counts
 pub mod Written
 pub mod Listing

@@ -17,7 +17,8 @@ use Rattle.rules.proofs.Laws.{held, failed}
 use Rattle.pages.specs.Pages.{largest, smaller, entry_count, entries, entry_words, whole_space, page_rows, page_entries}
 use Rattle.pages.proofs.Counts.{length_entry_words}
 use Rattle.words.specs.Words.{stored}
-use Rattle.entries.specs.Levels.{cover_to, count_to, Listable, Wrote}
+use Rattle.entries.specs.declared.PageSize.TheVariants.{Page1G}
+use Rattle.entries.specs.Sizes.{cover_to, count_to, Listable, Wrote}
 use Rattle.entries.proofs.Counts.{count-cover}
 
 -- the table's test also asks for a start at 0 or behind
@@ -43,11 +44,12 @@ module _ (m : Mapping) (ws : List ℕ) where
 
     pub listable : Listable m
     listable = let t = all_facts (fit_tests whole_space 0 m) h in record {
-      bounded = record { end_most = omega tests; offset_most = omega tests };
+      end_most = omega tests;
+      offset_most = omega tests;
       multiples = (omega tests, omega tests, omega tests);
     }
 
-    module _ {n : ℕ} (c : n ≡ count_to 2 m) where
+    module _ {n : ℕ} (c : n ≡ count_to Page1G m) where
       counted : n ≡ entry_count largest smaller m
       unfolding count_to
       counted = c
@@ -56,18 +58,18 @@ module _ (m : Mapping) (ws : List ℕ) where
       unfolding page_entries page_rows decide
       too_short k = rw (kept, lt-leb (3 * entry_count largest smaller m) (length ws) (omega (arith, k, counted)))
 
-      pub listed : 3 * n ≤ length ws → {after : List ℕ} {behind : ℕ} → Wrote ws after 0 behind (cover_to 2 m)
+      pub listed : 3 * n ≤ length ws → {after : List ℕ} {behind : ℕ} → Wrote ws after 0 behind (cover_to Page1G m)
           → page_entries m ws ≡ record { answer = answered n; words = after }
       unfolding page_entries page_rows decide stored cover_to
       listed k {after} w =
           rw (kept, le-leb (3 * entry_count largest smaller m) (length ws) (omega (arith, k, counted)))
           (λ i. record { answer = answered (sym counted i); words = same i })
         where
-          lengths : entry_count largest smaller m ≡ length (cover_to 2 m)
-          lengths = sym counted ∙ c ∙ count-cover 2 m
+          lengths : entry_count largest smaller m ≡ length (cover_to Page1G m)
+          lengths = sym counted ∙ c ∙ count-cover Page1G m
 
           same : flat_map entry_words (entries m) ++ drop (3 * entry_count largest smaller m) ws ≡ after
           same =
-              let d : 0 + length (flat_map entry_words (cover_to 2 m)) ≡ 3 * entry_count largest smaller m
-              = omega (arith, length_entry_words (cover_to 2 m), lengths) in
+              let d : 0 + length (flat_map entry_words (cover_to Page1G m)) ≡ 3 * entry_count largest smaller m
+              = omega (arith, length_entry_words (cover_to Page1G m), lengths) in
               sym (w.words ∙ rw d)

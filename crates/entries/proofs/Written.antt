@@ -1,24 +1,52 @@
--- Entries in the words of a slice: a row of one size, one entry after the other, and lists one behind the other.
+-- Entries in the words of a slice, one after the other, and lists one behind the other.
 -- Assumes nothing.
 use mathlib.Core.Path.{◌≡◌, sym, ap, ap₂, ◌∙◌}
-use mathlib.Core.List.{List, [], ◌∷◌, ◌++◌, flat_map}
-use Prim.Native.Nat.{ℕ, zero, suc, ◌+◌, ◌*◌, ◌≤◌, ◌<◌}
-use native.Mathlib.Nat.{mul-le-mul_right}
+use mathlib.Core.List.{List, [], ◌∷◌, ◌++◌, append-nil, flat_map}
+use Prim.Native.Nat.{ℕ, zero, suc, ◌+◌, ◌-◌, ◌*◌, ◌≤◌}
 use native.Mathlib.Omega.{arith}
-use lib.ListN.{length, length-append}
+use borrow.Rule.Slice.PartMut.{put_mid}
+use lib.ListN.{length, length-append, length-drop, take, drop, drop_of_length-le}
+use lib.Seq.{take_all, length-take-le}
 use Rattle.model.proofs.Operations.{flat_map-append}
 use Rattle.pages.specs.declared.Entry.{Entry}
 use Rattle.pages.specs.Pages.{entries_from, entry_words}
-use Rattle.pages.proofs.Counts.{length-entries_from, length_entry_words}
+use Rattle.pages.proofs.Counts.{length_entry_words}
 use Rattle.words.specs.Words.{stored}
-use Rattle.words.proofs.Stored.{stored_none, stored-behind, length-stored}
-use Rattle.entries.specs.Levels.{Wrote}
+use Rattle.words.proofs.Stored.{stored_none, stored-part, stored-behind}
+use Rattle.entries.specs.Sizes.{Wrote}
 
 -- entries behind others
 stored-entries : (ws : List ℕ) (place : ℕ) (es fs : List Entry) → place ≤ length ws
     → stored (stored ws place (flat_map entry_words es)) (place + 3 * length es) (flat_map entry_words fs) ≡ stored ws place (flat_map entry_words (es ++ fs))
 stored-entries ws place es fs h =
     rw (← length_entry_words es, flat_map-append entry_words es fs) (stored-behind ws place (flat_map entry_words es) (flat_map entry_words fs) h)
+
+module _ {before after : List ℕ} {place behind : ℕ} where
+  pub wrote_behind : {last : List ℕ} {end : ℕ} {es fs : List Entry} → place ≤ length before → Wrote before after place behind es
+      → Wrote after last behind end fs → Wrote before last place end (es ++ fs)
+  wrote_behind {last} {end} {es} {fs} h v w = record {
+    words = w.words ∙ rw (v.last, v.words) (stored-entries before place es fs h);
+    last = omega (arith, v.last, w.last, length-append es fs);
+  }
+
+-- ── in the part of a slice that is left from a place on ──
+
+pub length_left : (ws : List ℕ) (at : ℕ) → length (take (length ws - at) (drop at ws)) ≡ length ws - at
+length_left ws at = length-take-le (length ws - at) (drop at ws) (omega (arith, length-drop at ws))
+
+pub wrote_left : {ws left : List ℕ} {at n : ℕ} {es : List Entry} → Wrote (take (length ws - at) (drop at ws)) left 0 n es
+    → Wrote ws (put_mid at (length ws - at) ws left) at (at + n) es
+wrote_left {ws} {left} {at} {n} {es} w = record {
+  words =
+      let run = flat_map entry_words es in
+      let whole = take_all (length ws - at) (drop at ws) (omega (arith, length-drop at ws)) in
+      let none = drop_of_length-le (drop at ws) {i = length ws - at} (omega (arith, length-drop at ws)) in
+      let e : at + 0 ≡ at = omega arith in
+      rw (w.words, whole, none) (simp append-nil (stored-part ws at 0 run ∙ ap (λ (k : ℕ). stored ws k run) e));
+  last = omega (arith, w.last);
+}
+
+-- ── a row of one size ──
 
 abbrev entry : ℕ → ℕ → ℕ → Entry
 entry s a f = record { address = a; offset = f; size = s }
@@ -31,68 +59,15 @@ entries_next s (suc n) a f =
     (entries_next s n (a + s) (f + s)
     ∙ ap₂ (λ (x y : ℕ). entries_from s n (a + s) (f + s) ++ (entry s x y ∷ [])) (omega arith) (omega arith))
 
--- ── a row: i entries are written, and the next has the address `at` and the offset `from` ──
-
-pub record RowTo (size count address offset place : ℕ) (before ws : List ℕ) (i at from : ℕ) : Type 0 where
-  pub words : ws ≡ stored before place (flat_map entry_words (entries_from size i address offset))
-  pub next_address : at ≡ address + i * size
-  pub next_offset : from ≡ offset + i * size
-  pub most : i ≤ count
-
-module _ {size count address offset place : ℕ} {before : List ℕ} (room : place + 3 * count ≤ length before) where
-  pub row-start : RowTo size count address offset place before before 0 address offset
+-- i entries are written
+module _ (s a f : ℕ) {before : List ℕ} where
+  pub row-start : Wrote before before 0 0 (entries_from s 0 a f)
   unfolding entries_from flat_map
-  row-start = record { words = sym (stored_none before place); next_address = omega arith; next_offset = omega arith; most = omega arith }
+  row-start = record { words = sym (stored_none before 0); last = omega arith }
 
-  module _ {ws : List ℕ} {i at from : ℕ} (r : RowTo size count address offset place before ws i at from) where
-    row_words : length (flat_map entry_words (entries_from size i address offset)) ≡ 3 * i
-    row_words = length_entry_words (entries_from size i address offset) ∙ ap (λ (n : ℕ). 3 * n) (length-entries_from size i address offset)
-
-    pub row_long : length ws ≡ length before
-    row_long = ap length r.words ∙ length-stored before place _ (omega (arith, row_words, r.most))
-
-    -- one more size stays below the row's end
-    pub row_reach : i < count → i * size + size ≤ count * size
-    row_reach h = omega (arith, mul-le-mul_right {m = suc i} {n = count} size h)
-
-    pub row_next : {ws' : List ℕ} → i < count → ws' ≡ stored ws (place + 3 * i) (at ∷ from ∷ size ∷ [])
-        → RowTo size count address offset place before ws' (i + 1) (at + size) (from + size)
-    unfolding flat_map
-    row_next h e = record {
-      words =
-          e ∙ rw (r.next_address, r.next_offset, r.words)
-          (ap (λ (n : ℕ). stored (stored before place (flat_map entry_words es)) (place + 3 * n) (entry_words new)) (sym (length-entries_from size i address offset))
-          ∙ stored-entries before place es (new ∷ []) (omega arith)
-          ∙ ap (λ (es : List Entry). stored before place (flat_map entry_words es))
-          (sym (entries_next size i address offset) ∙ ap (λ (n : ℕ). entries_from size n address offset) (omega arith)));
-      next_address = omega (arith, r.next_address);
-      next_offset = omega (arith, r.next_offset);
-      most = omega arith;
-    }
-      where
-        es : List Entry
-        es = entries_from size i address offset
-
-        new : Entry
-        new = entry size (address + i * size) (offset + i * size)
-
-    pub row-end : count ≤ i → ws ≡ stored before place (flat_map entry_words (entries_from size count address offset))
-    row-end h = r.words ∙ ap (λ (n : ℕ). stored before place (flat_map entry_words (entries_from size n address offset))) (omega (arith, r.most))
-
--- ── lists of entries ──
-
-module _ {before after : List ℕ} {place behind : ℕ} where
-  pub wrote_long : {es : List Entry} → place + 3 * length es ≤ length before → Wrote before after place behind es → length after ≡ length before
-  wrote_long {es} h w = ap length w.words ∙ length-stored before place (flat_map entry_words es) (omega (arith, length_entry_words es))
-
-  pub wrote_behind : {last : List ℕ} {end : ℕ} {es fs : List Entry} → place ≤ length before → Wrote before after place behind es
-      → Wrote after last behind end fs → Wrote before last place end (es ++ fs)
-  wrote_behind {last} {end} {es} {fs} h v w = record {
-    words = w.words ∙ rw (v.last, v.words) (stored-entries before place es fs h);
-    last = omega (arith, v.last, w.last, length-append es fs);
-  }
-
-  pub wrote_row : (size count address offset : ℕ) → after ≡ stored before place (flat_map entry_words (entries_from size count address offset))
-      → behind ≡ place + 3 * count → Wrote before after place behind (entries_from size count address offset)
-  wrote_row size count address offset e d =
-      record { words = e; last = d ∙ ap (λ (n : ℕ). place + 3 * n) (sym (length-entries_from size count address offset)) }
+  pub row_next : (i : ℕ) {ws next : List ℕ} → Wrote before ws 0 (3 * i) (entries_from s i a f) → next ≡ stored ws (3 * i) ((a + i * s) ∷ (f + i * s) ∷ s ∷ [])
+      → Wrote before next 0 (3 * (i + 1)) (entries_from s (i + 1) a f)
+  unfolding flat_map
+  row_next i w e =
+      let d : i + 1 ≡ suc i = omega arith in
+      rw (d, entries_next s i a f) (wrote_behind (omega arith) w (record { words = e; last = omega arith }))

@@ -8,15 +8,15 @@ use Prim.Native.Nat.{ℕ, ◌*◌, ◌/◌, ◌≤◌, ◌<◌}
 use native.Mathlib.Omega.{arith}
 use lib.ListN.{length, drop}
 use Rattle.model.specs.Rows.{Reply, refused, answered, number_of, decide}
-use Rattle.model.specs.Exactly.{MappingRules, Gives, refusal, Pins}
+use Rattle.model.specs.Exactly.{MappingRules, Gives, refusal}
 use Rattle.model.proofs.Tests.{tests}
 use Rattle.model.proofs.Rows.{not_both, answered_passed}
 use Rattle.model.proofs.Rules.{mapping_says}
 use Rattle.model.proofs.Exactly.{Answers, match_answers}
-use Rattle.model.proofs.Pinned.{named, named_numbered, back_pins}
-use Rattle.pages.specs.Prelude.{Mapping, Entry, Listing, Listed, Refused}
+use Rattle.model.proofs.Pinned.{pinned}
+use Rattle.pages.specs.Prelude.{Mapping, Entry}
 use Rattle.pages.specs.Pages.{largest, smaller, paged, entry_count, entries, entry_words, whole_space, page_rows}
-use Rattle.pages.specs.Pages.{pages_outcome, page_entries, listing_reply}
+use Rattle.pages.specs.Pages.{pages_outcome, page_entries}
 use Rattle.pages.specs.Claims.{Covers, Ladder, page_sizes, entries_in, page_refusals, Lists, LargePages}
 use Rattle.pages.proofs.Counts.{count-length, length-paged}
 use Rattle.pages.proofs.Tiles.{paged_covered}
@@ -132,19 +132,6 @@ short m ws e es c = omega (arith, (too_short m ws e).1, entries_fewest m es c)
 
 enough : (m : Mapping) (ws : List ℕ) → 3 * (m.size / 4096) ≤ length ws → (page_entries m ws).answer ≡ refusal 16 → ⊥
 enough m ws h e = let k = too_short m ws e in omega (arith, h, k.1, count_entries m, count_most m (in_pages m k.0))
-
--- ── the answer enum ──
-
-pinned : Pins listing_reply
-pinned = back_pins listing_reply back same
-  where
-    back : Reply ℕ → Listing
-    back (refused n p) = Refused (named n p)
-    back (answered n) = Listed n
-
-    same : (a : Listing) → back (listing_reply a) ≡ a
-    same (Listed n) = refl
-    same (Refused w) = ap Refused (named_numbered w)
 
 pub large_pages : LargePages
 large_pages = record { exactly = exactly; unchanged = unchanged; lists = lists; short = short; enough = enough; pinned = pinned }

@@ -3,9 +3,9 @@
 use Rattle.std.specs.Prelude.{◌≡◌, ◌⊎◌, ◌↔◌, List, [], ◌∷◌, ◌++◌, map, ℕ, zero, suc, ◌+◌, ◌-◌, ◌*◌, ◌/◌, ◌%◌, ◌^◌, ◌≤◌, ◌<◌, length, get_or, drop}
 use Rattle.model.specs.Calls.{Reply, refused, answered, all, choose, end, space_of}
 use Rattle.model.specs.Cut.{inside_tests, translate}
-use Rattle.model.specs.Exactly.{Each, ◌∈◌, Ascends, MappingRules, RefusalTable, line, otherwise, Gives, refusal, Pins}
+use Rattle.model.specs.Exactly.{Each, ◌∈◌, Ascends, MappingRules, RefusalTable, line, otherwise, Gives, refusal, Pinned}
 use Rattle.pages.specs.Prelude.{Mapping, Shown, Entry}
-use Rattle.pages.specs.Pages.{part, cover, entry_count, page_entries, entries, listing_reply}
+use Rattle.pages.specs.Pages.{part, cover, entry_count, page_entries, entries}
 
 -- an entry as a mapping of m's object
 abbrev pub mapping_of : Mapping → Entry → Mapping
@@ -105,5 +105,5 @@ pub record LargePages : Type 0 where
   pub short : (m : Mapping) (ws : List ℕ) → (page_entries m ws).answer ≡ refusal 16
       → (es : List Entry) → Covers page_sizes m es → length ws < 3 * length es
   pub enough : (m : Mapping) (ws : List ℕ) → 3 * (m.size / 4096) ≤ length ws → (page_entries m ws).answer ≡ refusal 16 → ⊥
-  -- no two values of the answer enum read alike
-  pub pinned : Pins listing_reply
+  -- no two values of the answer read alike
+  pub pinned : Pinned ℕ

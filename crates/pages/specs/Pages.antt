@@ -3,8 +3,8 @@ use Rattle.std.specs.Prelude.{Bool, List, [], ◌∷◌, ◌++◌, ℕ, zero, su
 use mathlib.Core.List.{flat_map}
 use Rattle.model.specs.Rows.{choose, Row, row, Reply, refused, answered, decide}
 use Rattle.model.specs.Rules.{limit, end, mapping_tests}
-use Rattle.model.specs.Calls.{space_of, refusal_reply}
-use Rattle.pages.specs.Prelude.{Space, Mapping, Entry, Listing, Listed, Refused}
+use Rattle.model.specs.Calls.{space_of}
+use Rattle.pages.specs.Prelude.{Space, Mapping, Entry}
 
 -- the sizes of a page: 1 GiB, and from there down 2 MiB and 4 KiB
 abbrev pub largest : ℕ
@@ -98,8 +98,3 @@ pages_outcome (answered n) m ws = record { answer = answered n; words = flat_map
 -- the page entries of a mapping, for any input
 unfoldable pub page_entries : Mapping → List ℕ → PagesOutcome
 page_entries m ws = pages_outcome (decide (page_rows m (length ws)) (entry_count largest smaller m)) m ws
-
--- the answer enum of src/lib.rt
-abbrev pub listing_reply : Listing → Reply ℕ
-listing_reply (Listed n) = answered n
-listing_reply (Refused w) = refusal_reply w

@@ -3,5 +3,3 @@ pub use Rattle.model.specs.declared.Space.{Space}
 pub use Rattle.model.specs.declared.Mapping.{Mapping}
 pub use Rattle.model.specs.declared.Shown.{Shown}
 pub use Rattle.pages.specs.declared.Entry.{Entry}
-pub use Rattle.pages.specs.declared.Listing.{Listing}
-pub use Rattle.pages.specs.declared.Listing.TheVariants.{Listed, Refused}

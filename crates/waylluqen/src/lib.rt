@@ -4,9 +4,9 @@
 ghost use Rattle.std.specs.Prelude.{◌≡◌, ◌∷◌};
 ghost use Rattle.model.specs.Rows.{refused, answered, verdict};
 ghost use Rattle.model.specs.Rules.{space_row, request_rows};
-ghost use Rattle.model.specs.Calls.{number_of, verdict_reply, answer_reply, found_reply, space_of, bytes, check_request, bind, lookup};
+ghost use Rattle.model.specs.Calls.{number_of, verdict_reply, answer_reply, found_reply, reply_of, space_of, bytes, check_request, bind, lookup};
 ghost use Rattle.batches.specs.Batch.{bind_batch, batch_reply};
-ghost use Rattle.pages.specs.Pages.{page_entries, listing_reply};
+ghost use Rattle.pages.specs.Pages.{page_entries};
 ghost use Rattle.waylluqen.specs.Words.{shown_words, translation_of, answer_of, left, batch_left, mapping_in, pages_of, pages_left};
 ghost use Rattle.request.specs.Bound.{lent_words};
 ghost use Rattle.bind.specs.Asked.{numbers_of};
@@ -16,7 +16,6 @@ use bind::Numbers;
 use model::{
     Answer, Decoded, Found, Grant, Mapping, Range, Refusal, Request, Shown, Space, Verdict,
 };
-use pages::Listing;
 
 // A space, as C hands it over.
 #[repr(C)]
@@ -358,16 +357,16 @@ pub struct PagesWords {
 }
 
 // A listing's answer in words.
-fn pages_words(l: Listing) -> PagesWords
-    ensures { result ≡ pages_of (listing_reply l) }
+fn pages_words(l: Result<usize, Refusal>) -> PagesWords
+    ensures { result ≡ pages_of (reply_of l) }
 {
     match l {
-        Listing::Refused(w) => PagesWords {
+        Err(w) => PagesWords {
             refusal: rules::refusal_number(w) as u64,
             place: rules::refusal_place(w) as u64,
             entries: 0,
         },
-        Listing::Listed(n) => PagesWords {
+        Ok(n) => PagesWords {
             refusal: 0,
             place: 0,
             entries: n as u64,
