@@ -16,6 +16,7 @@ pub const MOST_OPERATION: usize = 320;
 
 // A lent slice, and where the text that has been written into it ends. It is no `fmt::Write`, since no clause of `write!` rules
 // an error out: `operation` and `response` can't fail.
+#[derive(Drop)]
 pub struct Lines<'a> {
     pub out: &'a mut [u8],
     pub end: usize,
