@@ -137,7 +137,7 @@ fn put_in(list: &mut [u64], count: usize, i: usize, x: Range)
     requires { (i ≤ count) × (2 * count + 2 ≤ length list.old) × ZeroFrom list.old (2 * count) }
     ensures { list.new ≡ list_written (length list.old) (put_in x i (ranges_in count list.old)) }
 {
-    words::up_few(list, 2 * i, 2 * i + 2, 2 * (count - i));
+    words::copy_run(list, 2 * i, 2 * i + 2, 2 * (count - i));
     words::store(list, 2 * i, &[x.start, x.size])
 }
 
@@ -147,7 +147,7 @@ fn take_out(list: &mut [u64], count: usize, i: usize)
     ensures { list.new ≡ list_written (length list.old) (taken_out i (ranges_in count list.old)) }
 {
     let after = count - 1;
-    words::down_few(list, 2 * i + 2, 2 * i, 2 * (after - i));
+    words::copy_run(list, 2 * i + 2, 2 * i, 2 * (after - i));
     words::store(list, 2 * after, &[0, 0])
 }
 

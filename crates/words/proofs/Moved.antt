@@ -60,6 +60,11 @@ moved_down ws from to j k h r =
     let b = stored-behind ws to xs (take k (drop (from + j) ws)) (omega arith) in
     rw (drop-stored ws to xs (from + j) (omega arith) (omega arith), take-add j k (drop from ws), drop-drop j from ws) (rw l at b)
 
+-- and where places are told otherwise
+pub moved_more_down : (ws a b : List ℕ) (from to j k at end : ℕ) → to ≤ from → from + end ≤ length ws → j ≡ at → at + k ≡ end
+    → a ≡ moved ws from to j → b ≡ moved a (from + at) (to + at) k → b ≡ moved ws from to end
+moved_more_down ws a b from to j k at end h r p q e f = f ∙ rw (e, ← q, ← p) (moved_down ws from to j k h (omega arith))
+
 -- upwards they stand before it
 pub moved_up : (ws : List ℕ) (from to j k : ℕ) → from ≤ to → to + k + j ≤ length ws
     → moved (moved ws (from + k) (to + k) j) from to k ≡ moved ws from to (k + j)
@@ -90,11 +95,7 @@ moved-part ws at from to n h e =
     let none = drop_of_length-le (drop at ws) {i = length ws - at} (omega (arith, length-drop at ws)) in
     rw (e, whole, none, drop-drop from at ws) (simp append-nil (stored-part ws at to (take n (drop (at + from) ws))))
 
--- ── sixteen words, four at a time ──
-
-pub four_down : (ws a b c d : List ℕ) (from to : ℕ) → to ≤ from → from + 16 ≤ length ws → a ≡ moved ws from to 4 → b ≡ moved a (from + 4) (to + 4) 4
-    → c ≡ moved b (from + 8) (to + 8) 4 → d ≡ moved c (from + 12) (to + 12) 4 → d ≡ moved ws from to 16
-four_down ws a b c d from to h k p q r s =
-    let e : b ≡ moved ws from to 8 = q ∙ rw p (moved_down ws from to 4 4 h (omega arith)) in
-    let f : c ≡ moved ws from to 12 = r ∙ rw e (moved_down ws from to 8 4 h (omega arith)) in
-    s ∙ rw f (moved_down ws from to 12 4 h (omega arith))
+-- the same, at the places in the whole
+pub moved_in_part : (ws : List ℕ) (at from to n f t : ℕ) {part : List ℕ} → at ≤ length ws → at + from ≡ f → at + to ≡ t
+    → part ≡ moved (mid_of at (length ws - at) ws) from to n → put_mid at (length ws - at) ws part ≡ moved ws f t n
+moved_in_part ws at from to n f t h p q e = rw (p, q) at (moved-part ws at from to n h e)

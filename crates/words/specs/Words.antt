@@ -3,12 +3,12 @@
 use Rattle.std.specs.Prelude.{◌≡◌, List, ◌++◌, ℕ, ◌+◌, ◌-◌, length, take, drop, replicate}
 use Rattle.words.specs.declared.Four.{Four}
 
--- a run written over the words from place `at` on
-unfoldable pub stored : List ℕ → ℕ → List ℕ → List ℕ
+-- a run written over the elements from place `at` on
+unfoldable pub stored : {A : Type 0} → List A → ℕ → List A → List A
 stored ws at run = take at ws ++ (run ++ drop (at + length run) ws)
 
--- the n words from `from` on copied to `to` on
-unfoldable pub moved : List ℕ → ℕ → ℕ → ℕ → List ℕ
+-- the n elements from `from` on copied to `to` on
+unfoldable pub moved : {A : Type 0} → List A → ℕ → ℕ → ℕ → List A
 moved ws from to n = stored ws to (take n (drop from ws))
 
 -- zeros from place `from` on

@@ -1,7 +1,7 @@
 // Runs of words inside one lent slice: stored, moved, cleared and looked at.
 #![tactic(auto)]
 
-ghost use Rattle.std.specs.Prelude.{◌≡◌, true, ◌+◌, ◌-◌, ◌*◌, ◌≤◌, length, replicate};
+ghost use Rattle.std.specs.Prelude.{◌≡◌, true, ◌+◌, ◌-◌, ◌*◌, ◌<◌, ◌≤◌, length, replicate};
 ghost use Rattle.words.specs.Words.{stored, moved, Tells, Blank, Joins, ZeroFrom};
 
 // Words joined bit by bit, four at a time: the first ones of each four, the second ones, and so on.
@@ -13,205 +13,86 @@ struct Four {
     fourth: u64,
 }
 
-// Writes the run over the words from `at` on.
-pub fn store(t: &mut [u64], at: usize, run: &[u64])
+// Writes the run over the elements from `at` on.
+#[tactic(auto, unfolding(crate::specs::Words::stored))]
+pub fn store<T: Copy>(t: &mut [T], at: usize, run: &[T])
     requires { at + length run.now ≤ length t.old }
     ensures { t.new ≡ stored t.old at run.now }
 {
-    let mut j: usize = 0;
-    while j < run.len() {
-        t[at + j] = run[j];
-        j += 1;
+    t[at..at + run.len()].copy_from_slice(run)
+}
+
+// Copies the `n` elements from `from` on to `to` on; the two runs may overlap.
+#[tactic(auto, unfolding(crate::specs::Words::stored, crate::specs::Words::moved))]
+pub fn copy_run<T: Copy>(t: &mut [T], from: usize, to: usize, n: usize)
+    requires { (from + n ≤ length t.old) × (to + n ≤ length t.old) }
+    ensures { t.new ≡ moved t.old from to n }
+{
+    t.copy_within(from..from + n, to)
+}
+
+// Copies N words, of which all are read before one is written.
+#[tactic(auto, unfolding(crate::specs::Words::stored, crate::specs::Words::moved))]
+fn copy_block<const N: usize>(t: &mut [u64], from: usize, to: usize)
+    requires { (0 < N) × (from + N ≤ length t.old) × (to + N ≤ length t.old) }
+    ensures { t.new ≡ moved t.old from to N }
+{
+    let block = t[from..from + N].as_chunks::<N>().0[0];
+    t[to..to + N].copy_from_slice(&block)
+}
+
+// Copies `blocks` times N words, where `to` is not above `from`: from the first to the last.
+fn down_by_blocks<const N: usize>(t: &mut [u64], from: usize, to: usize, blocks: usize)
+    requires { (0 < N) × (to ≤ from) × (from + N * blocks ≤ length t.old) }
+    ensures { t.new ≡ moved t.old from to (N * blocks) }
+{
+    for i in 0..blocks {
+        copy_block::<N>(t, from + N * i, to + N * i)
     }
 }
 
-// Copies four words. The two runs may overlap: all four are read before one is written.
-fn copy_four(t: &mut [u64], from: usize, to: usize)
-    requires { (from + 4 ≤ length t.old) × (to + 4 ≤ length t.old) }
-    ensures { t.new ≡ moved t.old from to 4 }
-{
-    let a = t[from];
-    let b = t[from + 1];
-    let c = t[from + 2];
-    let d = t[from + 3];
-    t[to] = a;
-    t[to + 1] = b;
-    t[to + 2] = c;
-    t[to + 3] = d;
-}
-
-// Copies sixteen words, where `to` is not above `from`: from the first four to the last.
-fn down_sixteen(t: &mut [u64], from: usize, to: usize)
-    requires { (to ≤ from) × (from + 16 ≤ length t.old) }
-    ensures { t.new ≡ moved t.old from to 16 }
-{
-    copy_four(t, from, to);
-    copy_four(t, from + 4, to + 4);
-    copy_four(t, from + 8, to + 8);
-    copy_four(t, from + 12, to + 12)
-}
-
-// Copies `turns` times sixteen words, where `to` is not above `from`: from the first to the last.
-fn down_turns(t: &mut [u64], from: usize, to: usize, turns: usize)
-    requires { (to ≤ from) × (from + 16 * turns ≤ length t.old) }
-    ensures { t.new ≡ moved t.old from to (16 * turns) }
-{
-    let mut i: usize = 0;
-    while i < turns {
-        down_sixteen(t, from + 16 * i, to + 16 * i);
-        i += 1;
-    }
-}
-
-// Copies `n` words that are few, where `to` is not above `from`: by four, from the first to the last.
-pub fn down_few(t: &mut [u64], from: usize, to: usize, n: usize)
+// Copies `n` words down by any distance: sixteen to a block, then four, and then what is left.
+fn move_far(t: &mut [u64], from: usize, to: usize, n: usize)
     requires { (to ≤ from) × (from + n ≤ length t.old) }
     ensures { t.new ≡ moved t.old from to n }
 {
-    let mut j: usize = 0;
-    while j < n {
-        if 4 <= n - j {
-            copy_four(t, from + j, to + j);
-            j += 4;
-        } else {
-            t[to + j] = t[from + j];
-            j += 1;
-        }
-    }
+    let most = n / 16 * 16;
+    down_by_blocks::<16>(t, from, to, n / 16);
+    down_by_blocks::<4>(t, from + most, to + most, n % 16 / 4);
+    let end = n / 4 * 4;
+    copy_run(t, from + end, to + end, n % 4)
 }
 
-// The same where `to` is not below `from`: from the last to the first.
-pub fn up_few(t: &mut [u64], from: usize, to: usize, n: usize)
-    requires { (from ≤ to) × (to + n ≤ length t.old) }
-    ensures { t.new ≡ moved t.old from to n }
-{
-    let mut j = n;
-    while 0 < j {
-        if 4 <= j {
-            j -= 4;
-            copy_four(t, from + j, to + j);
-        } else {
-            j -= 1;
-            t[to + j] = t[from + j];
-        }
-    }
-}
-
-// Copies `n` words to the front from four places above it: one by one, from the first to the last. A slice that begins there
-// and a distance that is written down: of such a loop the compiler makes one call of memmove, which is as wide as the
-// machine's registers.
-fn down_by_four(t: &mut [u64], n: usize)
-    requires { 4 + n ≤ length t.old }
-    ensures { t.new ≡ moved t.old 4 0 n }
-{
-    let mut j: usize = 0;
-    while j < n {
-        t[j] = t[4 + j];
-        j += 1;
-    }
-}
-
-// The same from eight places above it.
-fn down_by_eight(t: &mut [u64], n: usize)
-    requires { 8 + n ≤ length t.old }
-    ensures { t.new ≡ moved t.old 8 0 n }
-{
-    let mut j: usize = 0;
-    while j < n {
-        t[j] = t[8 + j];
-        j += 1;
-    }
-}
-
-// Copies the first `n` words to four places above them: one by one, from the last to the first.
-fn up_by_four(t: &mut [u64], n: usize)
-    requires { 4 + n ≤ length t.old }
-    ensures { t.new ≡ moved t.old 0 4 n }
-{
-    let mut j = n;
-    while 0 < j {
-        j -= 1;
-        t[4 + j] = t[j];
-    }
-}
-
-// The same to eight places above them.
-fn up_by_eight(t: &mut [u64], n: usize)
-    requires { 8 + n ≤ length t.old }
-    ensures { t.new ≡ moved t.old 0 8 n }
-{
-    let mut j = n;
-    while 0 < j {
-        j -= 1;
-        t[8 + j] = t[j];
-    }
-}
-
-// Copies `n` words down by any distance: the first ones first, sixteen to a turn.
-fn down_far(t: &mut [u64], from: usize, to: usize, n: usize)
-    requires { (to ≤ from) × (from + n ≤ length t.old) }
-    ensures { t.new ≡ moved t.old from to n }
-{
-    let turns = n / 16;
-    down_turns(t, from, to, turns);
-    down_few(t, from + 16 * turns, to + 16 * turns, n % 16)
-}
-
-// Copies the `n` words from `from` on to `to` on, where `to` is not above `from`. A mapping's four words and two mappings'
-// eight are the distances that mostly come.
-fn move_down(t: &mut [u64], from: usize, to: usize, n: usize)
-    requires { (to ≤ from) × (from + n ≤ length t.old) }
-    ensures { t.new ≡ moved t.old from to n }
-{
-    if from - to == 4 {
-        return down_by_four(&mut t[to..], n);
-    }
-    if from - to == 8 {
-        return down_by_eight(&mut t[to..], n);
-    }
-    down_far(t, from, to, n)
-}
-
-// The same where `to` is not below `from`: a request makes room for one mapping or for two.
-fn move_up(t: &mut [u64], from: usize, to: usize, n: usize)
-    requires { (from ≤ to) × (to + n ≤ length t.old) }
-    ensures { t.new ≡ moved t.old from to n }
-{
-    if to - from == 4 {
-        return up_by_four(&mut t[from..], n);
-    }
-    let by_eight = to - from == 8;
-    if by_eight {
-        return up_by_eight(&mut t[from..], n);
-    }
-    up_few(t, from, to, n)
-}
-
-// Copies the `n` words from `from` on to `to` on; the two runs may overlap.
+// The same as `copy_run`, for a table: a request moves its mappings by one or two, and mostly by no more, which is four words
+// or eight. With such a distance written down, in a part that begins at the lower run, `copy_run` is one call of memmove,
+// which is as wide as the machine's registers.
 pub fn move_run(t: &mut [u64], from: usize, to: usize, n: usize)
     requires { (from + n ≤ length t.old) × (to + n ≤ length t.old) }
     ensures { t.new ≡ moved t.old from to n }
 {
-    if from == to {
-        return;
-    }
     if from < to {
-        move_up(t, from, to, n)
+        match to - from {
+            4 => copy_run(&mut t[from..], 0, 4, n),
+            8 => copy_run(&mut t[from..], 0, 8, n),
+            _ => copy_run(t, from, to, n),
+        }
     } else {
-        move_down(t, from, to, n)
+        match from - to {
+            0 => {}
+            4 => copy_run(&mut t[to..], 4, 0, n),
+            8 => copy_run(&mut t[to..], 8, 0, n),
+            _ => move_far(t, from, to, n),
+        }
     }
 }
 
 // Makes the words from `from` up to `to` zero.
+#[tactic(auto, unfolding(crate::specs::Words::stored))]
 pub fn clear(t: &mut [u64], from: usize, to: usize)
     requires { (from ≤ to) × (to ≤ length t.old) }
     ensures { t.new ≡ stored t.old from (replicate (to - from) 0) }
 {
-    let mut i = from;
-    while i < to {
-        t[i] = 0;
-        i += 1;
-    }
+    t[from..to].fill(0)
 }
 
 // Nothing was joined yet.

@@ -7,4 +7,4 @@ pub returns : goal.returns
 returns c =
     let a = c.args in
     c.store.ensures
-    ∙ rw c.up_few.ensures (put_written a.list.now a.count a.i (omega arith) c.requires.2 a.x c.requires.0 c.requires.1)
+    ∙ rw c.copy_run.ensures (put_written a.list.now a.count a.i (omega arith) c.requires.2 a.x c.requires.0 c.requires.1)

@@ -6,4 +6,4 @@ pub returns : goal.returns
 returns c =
     let a = c.args in
     c.store.ensures
-    ∙ rw c.down_few.ensures (out_written a.list.now a.count a.i c.requires.1 c.requires.2 c.requires.0)
+    ∙ rw c.copy_run.ensures (out_written a.list.now a.count a.i c.requires.1 c.requires.2 c.requires.0)

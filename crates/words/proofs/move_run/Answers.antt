@@ -1,10 +1,30 @@
-use mathlib.Core.Path.{sym, ap, ◌∙◌}
-use Prim.Native.Nat.{ℕ}
-use Rattle.words.specs.Words.{moved}
-use Rattle.words.proofs.Moved.{moved_same}
+use mathlib.Core.Path.{◌≡◌, sym}
+use native.Mathlib.Omega.{arith}
+use Rattle.words.proofs.Moved.{moved_in_part, moved_same}
 use Rattle.words.proofs.move_run.Goals as goal
 
-pub returns-then-from-to : goal.returns-then-from-to
-returns-then-from-to c =
+pub returns-in-4 : goal.returns-in-4
+returns-in-4 c =
     let a = c.args in
-    sym (ap (λ (k : ℕ). moved a.t.now a.from k a.n) (sym c.if-from-to.true) ∙ moved_same a.t.now a.from a.n c.requires.0)
+    moved_in_part a.t.now a.from 0 4 a.n a.from a.to (omega arith) (omega arith) (omega (arith, c.in-4.is)) c.copy_run.ensures
+
+pub returns-in-8 : goal.returns-in-8
+returns-in-8 c =
+    let a = c.args in
+    moved_in_part a.t.now a.from 0 8 a.n a.from a.to (omega arith) (omega arith) (omega (arith, c.in-8.is)) c.copy_run-in-8.ensures
+
+pub returns-in-0 : goal.returns-in-0
+returns-in-0 c =
+    let a = c.args in
+    let e : a.to ≡ a.from = omega (arith, c.in-0.is) in
+    rw e (sym (moved_same a.t.now a.from a.n c.requires.0))
+
+pub returns-in-4-2 : goal.returns-in-4-2
+returns-in-4-2 c =
+    let a = c.args in
+    moved_in_part a.t.now a.to 4 0 a.n a.from a.to (omega arith) (omega (arith, c.in-4-2.is)) (omega arith) c.copy_run-in-4-2.ensures
+
+pub returns-in-8-2 : goal.returns-in-8-2
+returns-in-8-2 c =
+    let a = c.args in
+    moved_in_part a.t.now a.to 8 0 a.n a.from a.to (omega arith) (omega (arith, c.in-8-2.is)) (omega arith) c.copy_run-in-8-2.ensures
