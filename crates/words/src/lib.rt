@@ -63,24 +63,42 @@ fn move_far(t: &mut [u64], from: usize, to: usize, n: usize)
     copy_run(t, from + end, to + end, n % 4)
 }
 
-// The same as `copy_run`, for a table: a request moves its mappings by one or two, and mostly by no more, which is four words
-// or eight. With such a distance written down, in a part that begins at the lower run, `copy_run` is one call of memmove,
-// which is as wide as the machine's registers.
+// Copies the first `n` words to D places above them. A slice that begins there and a distance that is written down: of such a
+// copy the compiler makes one call of memmove, which is as wide as the machine's registers.
+#[tactic(auto, unfolding(crate::specs::Words::stored, crate::specs::Words::moved))]
+fn up_by<const D: usize>(t: &mut [u64], n: usize)
+    requires { D + n ≤ length t.old }
+    ensures { t.new ≡ moved t.old 0 D n }
+{
+    t.copy_within(..n, D)
+}
+
+// Copies `n` words to the front from D places above it.
+#[tactic(auto, unfolding(crate::specs::Words::stored, crate::specs::Words::moved))]
+fn down_by<const D: usize>(t: &mut [u64], n: usize)
+    requires { D + n ≤ length t.old }
+    ensures { t.new ≡ moved t.old D 0 n }
+{
+    t.copy_within(D..D + n, 0)
+}
+
+// What `copy_run` does, for a table: a request moves its mappings by one or two, and mostly by no more, which is four words
+// or eight.
 pub fn move_run(t: &mut [u64], from: usize, to: usize, n: usize)
     requires { (from + n ≤ length t.old) × (to + n ≤ length t.old) }
     ensures { t.new ≡ moved t.old from to n }
 {
     if from < to {
         match to - from {
-            4 => copy_run(&mut t[from..], 0, 4, n),
-            8 => copy_run(&mut t[from..], 0, 8, n),
+            4 => up_by::<4>(&mut t[from..], n),
+            8 => up_by::<8>(&mut t[from..], n),
             _ => copy_run(t, from, to, n),
         }
     } else {
         match from - to {
             0 => {}
-            4 => copy_run(&mut t[to..], 4, 0, n),
-            8 => copy_run(&mut t[to..], 8, 0, n),
+            4 => down_by::<4>(&mut t[to..], n),
+            8 => down_by::<8>(&mut t[to..], n),
             _ => move_far(t, from, to, n),
         }
     }
