@@ -5,13 +5,12 @@
 ghost use Rattle.std.specs.Prelude.{◌≡◌, List, [], ℕ, ◌<◌};
 ghost use Rattle.model.specs.Rows.{verdict};
 ghost use Rattle.model.specs.Table.{table_rows};
-ghost use Rattle.model.specs.Calls.{bytes, lent_rows, adds, removes, purpose, bind, lookup, verdict_reply, answer_reply, found_reply};
-ghost use Rattle.model.specs.Demand3.{IsGrant};
+ghost use Rattle.model.specs.Calls.{asked, bytes, range_of, lent_rows, adds, removes, purpose, bind, lookup, reply_of};
 ghost use Rattle.table.specs.Places.{lent};
-ghost use Rattle.request.specs.Bound.{lent_words, Relistable, then, decided};
+ghost use Rattle.request.specs.Bound.{lent_words, Relistable, decided};
 ghost use Rattle.bind.specs.Asked.{numbers_of};
 
-use model::{Answer, Decoded, Found, Grant, Range, Refusal, Request, Space, Verdict};
+use model::{Grant, Range, Refusal, Request, Seen, Space};
 
 // A request by its numbers: op 0 maps, op 1 unmaps, another is refused.
 #[repr(C)]
@@ -24,12 +23,29 @@ pub struct Numbers {
     pub offset: u64,
 }
 
+impl From<Numbers> for Request {
+    ghost from_gives = { λ q r. r ≡ asked (numbers_of q) };
+
+    fn from(q: Numbers) -> Request {
+        Request {
+            op: q.op,
+            flags: 0,
+            object: q.object,
+            pad: 0,
+            address: q.address,
+            offset: q.offset,
+            size: q.size,
+        }
+    }
+}
+
 // Rows 1, 2, 4, 5 and 17: a look-up's, of the table alone.
-fn lookup_table_verdict(s: Space, table: &[u64], count: usize) -> Verdict
-    ensures { verdict_reply result ≡ verdict (table_rows s [] (lent table.now count)) }
+#[tactic(auto, unfolding(model::specs::Rows::decide, model::specs::Table::table_rows))]
+fn lookup_table_verdict(s: Space, table: &[u64], count: usize) -> Result<(), Refusal>
+    ensures { reply_of result ≡ verdict (table_rows s [] (lent table.now count)) }
 {
     if !rules::space_keeps_rules(s) {
-        return Verdict::Refuse(Refusal::BadSpace);
+        return Err(Refusal::BadSpace);
     }
     inspect::table_verdict(s, table, count)
 }
@@ -42,19 +58,15 @@ fn lookup_verdict(
     range_count: usize,
     table: &[u64],
     count: usize,
-) -> Verdict
-    ensures { verdict_reply result ≡ verdict (lent_rows s [] (lent_words ranges.now range_count table.now count)) }
+) -> Result<(), Refusal>
+    ensures { reply_of result ≡ verdict (lent_rows s [] (lent_words ranges.now range_count table.now count)) }
 {
-    match lookup_table_verdict(s, table, count) {
-        Verdict::Refuse(w) => Verdict::Refuse(w),
-        Verdict::Pass => {
-            if request::is_none(ranges, range_count) {
-                return Verdict::Pass;
-            }
-            // As a part: lent on as it came, its address and length would be stored at every call.
-            request::list_verdict(s, &ranges[0..], range_count)
-        }
+    lookup_table_verdict(s, table, count)?;
+    if request::is_none(ranges, range_count) {
+        return Ok(());
     }
+    // As a part: lent on as it came, its address and length would be stored at every call.
+    request::list_verdict(s, &ranges[0..], range_count)
 }
 
 // What the byte address `x` shows in a table of `count` mappings, beside a list of sparse ranges, and for how many bytes,
@@ -66,15 +78,21 @@ pub fn lookup(
     table: &[u64],
     count: usize,
     x: u64,
-) -> Found
-    ensures { found_reply result ≡ lookup s (lent_words ranges.now range_count table.now count) x }
+) -> Result<Seen, Refusal>
+    ensures { reply_of result ≡ lookup s (lent_words ranges.now range_count table.now count) x }
 {
-    match lookup_verdict(s, ranges, range_count, table, count) {
-        Verdict::Refuse(w) => Found::Refused(w),
-        Verdict::Pass => {
-            let alone = table::see(s, table, count, x);
-            Found::Shows(ranges::beside(ranges, range_count, x, alone))
-        }
+    lookup_verdict(s, ranges, range_count, table, count)?;
+    let alone = table::see(s, table, count, x);
+    Ok(ranges::beside(ranges, range_count, x, alone))
+}
+
+// The range of a request.
+fn range_of(r: Request) -> Range
+    ensures { result ≡ range_of r }
+{
+    Range {
+        start: r.address,
+        size: r.size,
     }
 }
 
@@ -85,22 +103,16 @@ fn add_range(
     range_count: usize,
     table: &[u64],
     count: usize,
-) -> Answer
+) -> Result<Grant, Refusal>
     requires { Relistable r (lent_words ranges.old range_count table.now count) }
-    ensures { (os : List ℕ) → decided adds r (lent_words ranges.old range_count table.now count) os ≡ record { answer = answer_reply result; table = table.now; ranges = ranges.new; operations = os } }
+    ensures { (os : List ℕ) → decided adds r (lent_words ranges.old range_count table.now count) os ≡ record { answer = reply_of result; table = table.now; ranges = ranges.new; operations = os } }
 {
-    let range = Range {
-        start: r.address,
-        size: r.size,
-    };
-    match ranges::add(ranges, range_count, range) {
-        Verdict::Refuse(w) => Answer::Refused(w),
-        Verdict::Pass => Answer::Granted(Grant {
-            operations: 0,
-            count: count,
-            ranges: range_count + 1,
-        }),
-    }
+    ranges::add(ranges, range_count, range_of(r))?;
+    Ok(Grant {
+        operations: 0,
+        count,
+        ranges: range_count + 1,
+    })
 }
 
 // An unmap with the flag that passed them: row 20, or a range less.
@@ -110,47 +122,36 @@ fn remove_range(
     range_count: usize,
     table: &[u64],
     count: usize,
-) -> Answer
+) -> Result<Grant, Refusal>
     requires { Relistable r (lent_words ranges.old range_count table.now count) }
-    ensures { (os : List ℕ) → decided removes r (lent_words ranges.old range_count table.now count) os ≡ record { answer = answer_reply result; table = table.now; ranges = ranges.new; operations = os } }
+    ensures { (os : List ℕ) → decided removes r (lent_words ranges.old range_count table.now count) os ≡ record { answer = reply_of result; table = table.now; ranges = ranges.new; operations = os } }
 {
     if !table::is_free(table, count, r.address, r.address + r.size) {
-        return Answer::Refused(Refusal::NoSuchRange);
+        return Err(Refusal::NoSuchRange);
     }
-    let range = Range {
-        start: r.address,
-        size: r.size,
-    };
-    match ranges::remove(ranges, range_count, range) {
-        Verdict::Refuse(w) => Answer::Refused(w),
-        Verdict::Pass => Answer::Granted(Grant {
-            operations: 0,
-            count: count,
-            ranges: range_count - 1,
-        }),
-    }
+    ranges::remove(ranges, range_count, range_of(r))?;
+    Ok(Grant {
+        operations: 0,
+        count,
+        ranges: range_count - 1,
+    })
 }
 
 // One with the flag, behind those rows: rows 19, 20 and 11, and the list.
 fn relist(
-    passed: Answer,
     r: Request,
     ranges: &mut [u64],
     range_count: usize,
     table: &[u64],
     count: usize,
-) -> Answer
-    requires { (0 < r.flags) × (IsGrant (answer_reply passed) → Relistable r (lent_words ranges.old range_count table.now count)) }
-    ensures { (os : List ℕ) → then (answer_reply passed) (lent_words ranges.old range_count table.now count) os (λ _. decided (purpose r) r (lent_words ranges.old range_count table.now count) os) ≡ record { answer = answer_reply result; table = table.now; ranges = ranges.new; operations = os } }
+) -> Result<Grant, Refusal>
+    requires { (0 < r.flags) × Relistable r (lent_words ranges.old range_count table.now count) }
+    ensures { (os : List ℕ) → decided (purpose r) r (lent_words ranges.old range_count table.now count) os ≡ record { answer = reply_of result; table = table.now; ranges = ranges.new; operations = os } }
 {
-    match passed {
-        Answer::Refused(w) => Answer::Refused(w),
-        Answer::Granted(_) => {
-            if r.op == 0 {
-                return add_range(r, ranges, range_count, table, count);
-            }
-            remove_range(r, ranges, range_count, table, count)
-        }
+    if r.op == 0 {
+        add_range(r, ranges, range_count, table, count)
+    } else {
+        remove_range(r, ranges, range_count, table, count)
     }
 }
 
@@ -164,32 +165,12 @@ pub fn bind(
     count: usize,
     operations: &mut [u64],
     q: Numbers,
-) -> Answer
-    ensures { bind s (lent_words ranges.now range_count table.old count) operations.old (numbers_of q) ≡ record { answer = answer_reply result; table = table.new; ranges = ranges.now; operations = operations.new } }
+) -> Result<Grant, Refusal>
+    ensures { bind s (lent_words ranges.now range_count table.old count) operations.old (numbers_of q) ≡ record { answer = reply_of result; table = table.new; ranges = ranges.now; operations = operations.new } }
 {
-    let r = Request {
-        op: q.op,
-        flags: 0,
-        object: q.object,
-        pad: 0,
-        address: q.address,
-        offset: q.offset,
-        size: q.size,
-    };
-    match rules::form_verdict(r, rules::SPARSE) {
-        Verdict::Refuse(w) => Answer::Refused(w),
-        Verdict::Pass => request::bind_request(
-            false,
-            s,
-            ranges,
-            range_count,
-            table,
-            count,
-            operations,
-            r,
-            0,
-        ),
-    }
+    let r = Request::from(q);
+    rules::form_verdict(r, rules::SPARSE)?;
+    request::bind_request(s, ranges, range_count, table, count, operations, r)
 }
 
 // The same by the bytes of a record, which may have the sparse flag and then changes the list alone: the refusals 12, 13,
@@ -202,27 +183,13 @@ pub fn bind_record(
     count: usize,
     operations: &mut [u64],
     record: &[u8],
-) -> Answer
-    ensures { bind s (lent_words ranges.old range_count table.old count) operations.old (bytes «record».now) ≡ record { answer = answer_reply result; table = table.new; ranges = ranges.new; operations = operations.new } }
+) -> Result<Grant, Refusal>
+    ensures { bind s (lent_words ranges.old range_count table.old count) operations.old (bytes «record».now) ≡ record { answer = reply_of result; table = table.new; ranges = ranges.new; operations = operations.new } }
 {
-    match record::decode(record, rules::SPARSE) {
-        Decoded::Refuse(w) => Answer::Refused(w),
-        Decoded::Record(r) => {
-            let answer = request::bind_request(
-                false,
-                s,
-                ranges,
-                range_count,
-                table,
-                count,
-                operations,
-                r,
-                0,
-            );
-            if r.flags == 0 {
-                return answer;
-            }
-            relist(answer, r, ranges, range_count, table, count)
-        }
+    let r = record::decode(record, rules::SPARSE)?;
+    let grant = request::bind_request(s, ranges, range_count, table, count, operations, r)?;
+    if r.flags == 0 {
+        return Ok(grant);
     }
+    relist(r, ranges, range_count, table, count)
 }

@@ -122,3 +122,13 @@ module _ (s : Space) (rs : List ℕ) (n : ℕ) (ws : List ℕ) (count : ℕ) (os
   bound_is {b} {ps} f =
       bound-behind s l os r h e ∙ ap rest (same_table s l os r h e) ∙ f
       ∙ ap (λ (vs : List ℕ). record { answer = b; table = us; ranges = ps; operations = vs }) (same_operations s l os r h e)
+
+-- their refusal is that of the whole, with the flag or without
+pub refused_there : (s : Space) (rs : List ℕ) (k : ℕ) (ws : List ℕ) (count : ℕ) (os : List ℕ) (r : Request) {n p : ℕ} {us vs : List ℕ}
+    → partly s (lent_words rs k ws count) os r ≡ record { answer = refused n p; table = us; ranges = rs; operations = vs }
+    → bound s (lent_words rs k ws count) os r ≡ record { answer = refused n p; table = us; ranges = rs; operations = vs }
+refused_there s rs k ws count os r {n} {p} {us} {vs} e = go r.flags refl
+  where
+    go : (f : ℕ) → r.flags ≡ f → bound s (lent_words rs k ws count) os r ≡ record { answer = refused n p; table = us; ranges = rs; operations = vs }
+    go zero q = sym (partly_plain s (lent_words rs k ws count) os r q) ∙ e
+    go (suc f) q = bound_is s rs k ws count os r (omega (arith, q)) e refl

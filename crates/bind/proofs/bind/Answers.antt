@@ -1,20 +1,17 @@
-use mathlib.Core.Path.{sym, ap, subst, ◌∙◌}
-use lib.Dec.{T}
-use Rattle.model.specs.Calls.{verdict_reply}
+use mathlib.Core.Path.{◌∙◌}
+use Rattle.rules.proofs.Laws.{refused_on}
 use Rattle.request.specs.Bound.{lent_words}
 use Rattle.bind.proofs.Binds.{bind_by}
 use Rattle.bind.proofs.bind.Goals as goal
 
-pub bind_request-requires : goal.bind_request-requires
-bind_request-requires c = λ unknown. absurd (subst T (sym unknown) tt)
-
-pub returns-in-Refuse : goal.returns-in-Refuse
-returns-in-Refuse c =
+pub returns-in_err-form_verdict : goal.returns-in_err-form_verdict
+returns-in_err-form_verdict c =
     let a = c.args in
-    bind_by a.s (lent_words a.ranges.now a.range_count a.table.now a.count) a.operations.now a.q (sym (ap verdict_reply c.in-Refuse.is) ∙ c.form_verdict.ensures)
+    rw (refused_on _ _ c.from_residual.ensures.1)
+    (bind_by a.s (lent_words a.ranges.now a.range_count a.table.now a.count) a.operations.now a.q (rw c.from-r.ensures at c.in_err-form_verdict.ensures))
 
-pub returns-in-Pass : goal.returns-in-Pass
-returns-in-Pass c =
+pub returns : goal.returns
+returns c =
     let a = c.args in
-    bind_by a.s (lent_words a.ranges.now a.range_count a.table.now a.count) a.operations.now a.q (sym (ap verdict_reply c.in-Pass.is) ∙ c.form_verdict.ensures)
-    ∙ c.bind_request.ensures
+    bind_by a.s (lent_words a.ranges.now a.range_count a.table.now a.count) a.operations.now a.q (rw c.from-r.ensures at c.in_ok-form_verdict.ensures)
+    ∙ (rw c.from-r.ensures at c.bind_request.ensures)

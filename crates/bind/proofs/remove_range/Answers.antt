@@ -1,29 +1,28 @@
-use mathlib.Core.Path.{sym, ◌∙◌}
-use borrow.Author.Tests.{not-true, not-false}
+use mathlib.Core.Path.{sym, ap}
+use mathlib.Core.Bool.{not}
+use Rattle.rules.proofs.Laws.{refused_on, held, failed}
 use Rattle.request.specs.Bound.{lent_words}
 use Rattle.request.proofs.Lasts.{removed_some, removes_mapped, removes_refused, removes_granted}
 use Rattle.model.specs.Calls.{range_of}
 use Rattle.ranges.specs.Lists.{lent_list}
-use mathlib.Core.Path.{ap}
-use mathlib.Core.Bool.{not}
 use Rattle.bind.proofs.remove_range.Goals as goal
 
 pub returns-then-not-is_free : goal.returns-then-not-is_free
 returns-then-not-is_free c =
     let a = c.args in
-    λ os. removes_mapped a.r (lent_words a.ranges.now a.range_count a.table.now a.count) os (sym (not-true _ (ap not c.if-not-is_free.true)) ∙ c.is_free.ensures)
+    λ os. removes_mapped a.r (lent_words a.ranges.now a.range_count a.table.now a.count) os (sym (failed c.is_free.ensures (ap not c.if-not-is_free.true)))
 
 pub overflow_sub-result : goal.overflow_sub-result
 overflow_sub-result c =
     let a = c.args in
-    removed_some (range_of a.r) (lent_list a.ranges.now a.range_count) (rw c.in-Pass.is at c.remove.ensures)
+    removed_some (range_of a.r) (lent_list a.ranges.now a.range_count) (rw (c.in_ok-remove.was, c.range_of.ensures) at c.remove.ensures)
 
-pub returns-in-Refuse : goal.returns-in-Refuse
-returns-in-Refuse c =
+pub returns-in_err-remove : goal.returns-in_err-remove
+returns-in_err-remove c =
     let a = c.args in
-    λ os. removes_refused a.r (lent_words a.ranges.now a.range_count a.table.now a.count) os (sym (not-false _ (ap not c.if-not-is_free.false)) ∙ c.is_free.ensures) (rw c.in-Refuse.is at c.remove.ensures)
+    λ os. rw (refused_on _ _ c.from_residual.ensures.1) (removes_refused a.r (lent_words a.ranges.now a.range_count a.table.now a.count) os (sym (held c.is_free.ensures (ap not c.if-not-is_free.false))) (rw (c.in_err-remove.was, c.range_of.ensures) at c.remove.ensures))
 
-pub returns-in-Pass : goal.returns-in-Pass
-returns-in-Pass c =
+pub returns : goal.returns
+returns c =
     let a = c.args in
-    λ os. removes_granted a.r (lent_words a.ranges.now a.range_count a.table.now a.count) os (sym (not-false _ (ap not c.if-not-is_free.false)) ∙ c.is_free.ensures) (rw c.in-Pass.is at c.remove.ensures)
+    λ os. removes_granted a.r (lent_words a.ranges.now a.range_count a.table.now a.count) os (sym (held c.is_free.ensures (ap not c.if-not-is_free.false))) (rw (c.in_ok-remove.was, c.range_of.ensures) at c.remove.ensures)
