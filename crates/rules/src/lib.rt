@@ -2,8 +2,8 @@
 // tests, in their order, most with & between them: no branch. Sums are compared exactly, and none is made that could wrap.
 #![tactic(auto)]
 
-ghost use Rattle.std.specs.Prelude.{◌≡◌, ◌+◌, min, max, leb};
-ghost use Rattle.model.specs.Rows.{all, choose, verdict};
+ghost use Rattle.std.specs.Prelude.{◌≡◌, ◌+◌, min, leb};
+ghost use Rattle.model.specs.Rows.{all, verdict};
 ghost use Rattle.model.specs.Rules.{aligned, apart, space_tests, form_rows, request_rows, alignment_row, inside_row, object_row, offset_row};
 ghost use Rattle.model.specs.Table.{fit_tests};
 ghost use Rattle.model.specs.Ranges.{range_tests};
@@ -41,23 +41,10 @@ fn sum_within(a: u64, b: u64, most: u64) -> bool
     b <= most && a <= most - b
 }
 
-pub fn greater(a: u64, b: u64) -> u64
-    ensures { result ≡ max a b }
-{
-    if a <= b { b } else { a }
-}
-
 pub fn lesser(a: u64, b: u64) -> u64
     ensures { result ≡ min a b }
 {
     if a <= b { a } else { b }
-}
-
-// A keep mark as a word.
-pub fn mark(keep: bool) -> u64
-    ensures { result ≡ choose keep 1 0 }
-{
-    if keep { 1 } else { 0 }
 }
 
 // [a, a + n) and [c, c + m) share no byte: one of them ends at or before the greater start.
