@@ -10,7 +10,7 @@ use native.Mathlib.Omega.{arith}
 use lib.Dec.{leb, ltb}
 use lib.ListN.{length}
 use borrow.Author.Tests.{ltb-true, leb-false}
-use Rattle.std.specs.Prelude.{Option, None, Some}
+use Rattle.std.specs.Prelude.{None, Some}
 use Rattle.model.specs.declared.Mapping.{Mapping}
 use Rattle.model.specs.Rows.{choose}
 use Rattle.pages.specs.Pages.{lower, middle, upper, congruent, paged, cover, entry_count}
@@ -23,14 +23,14 @@ use Rattle.pages.proofs.Small.{cover_small}
 use Rattle.pages.proofs.Fewer.{count_less}
 use Rattle.entries.specs.declared.PageSize.{PageSize}
 use Rattle.entries.specs.declared.PageSize.TheVariants.{Page4K, Page2M, Page1G}
-use Rattle.entries.specs.Sizes.{bytes_of, largest_in, below, sizes_below, cover_to, count_to, whole_pages, Listable}
+use Rattle.entries.specs.Sizes.{bytes_of, largest_in, size_below, sizes_below, cover_to, count_to, whole_pages, Listable, Pieces}
 use Rattle.entries.proofs.Sizes.{size_some, ladder_at, least_at, none_below, next_below}
 
 -- a mapping that lists has whole pages of the least of the sizes
 base_of : (s : PageSize) (m : Mapping) → Listable m → Base (least (bytes_of s) (sizes_below s)) m
 base_of s m k = subst (λ (z : ℕ). Base z m) (sym (least_at s)) (base 4096 m (k.multiples.0, (k.multiples.1, (k.multiples.2, tt))))
 
-pub cover-least : (s : PageSize) (m : Mapping) → below s ≡ None → paged (bytes_of s) m ≡ cover_to s m
+pub cover-least : (s : PageSize) (m : Mapping) → size_below s ≡ None → paged (bytes_of s) m ≡ cover_to s m
 unfolding cover_to cover
 cover-least s m e = rw (none_below s e)
 
@@ -52,11 +52,17 @@ neither false b e = inl refl
 pub agrees : (s : PageSize) (m : Mapping) → MayHave s m true → congruent (bytes_of s) m ≡ true
 agrees s m e = both (leb (bytes_of s) m.size) (congruent (bytes_of s) m) e
 
-module _ (s t : PageSize) (m : Mapping) (next : below s ≡ Some t) where
+module _ (s t : PageSize) (m : Mapping) (next : size_below s ≡ Some t) where
   pub parts-cover : {p q r : Mapping} → p ≡ lower (bytes_of s) m → q ≡ middle (bytes_of s) m → r ≡ upper (bytes_of s) m
       → congruent (bytes_of s) m ≡ true → cover_to t p ++ (paged (bytes_of s) q ++ cover_to t r) ≡ cover_to s m
   unfolding cover_to cover
   parts-cover low whole high e = rw (low, whole, high, next_below s next, e)
+
+  pub pieces : {p q r : Mapping} → p ≡ lower (bytes_of s) m → q ≡ middle (bytes_of s) m → r ≡ upper (bytes_of s) m
+      → MayHave s m true → Pieces s t m p q r
+  pieces {p} {q} {r} low whole high e =
+      let same = parts-cover low whole high (agrees s m e) in
+      record { entries = same; number = sym (length_three (cover_to t p) (paged (bytes_of s) q) (cover_to t r)) ∙ ap length same }
 
   -- ── one that has none: all of it is left to the smaller sizes ──
 
@@ -77,16 +83,6 @@ module _ (s t : PageSize) (m : Mapping) (next : below s ≡ Some t) where
       go : (leb (bytes_of s) m.size ≡ false) ⊎ (congruent (bytes_of s) m ≡ false) → cover_to t m ≡ cover_to s m
       go (inl h) = cover-smaller k (leb-false _ _ h)
       go (inr h) = cover-apart h
-
--- what the code's calls tell where it is cut: the entries of the three parts, and their number
-module _ (s : PageSize) (m : Mapping) {o : Option PageSize} {t : PageSize} {b : Bool} {p q r : Mapping} (d : o ≡ below s) (is : o ≡ Some t)
-    (test : b ≡ (leb (bytes_of s) m.size && congruent (bytes_of s) m)) (may : b ≡ true)
-    (low : p ≡ lower (bytes_of s) m) (whole : q ≡ middle (bytes_of s) m) (high : r ≡ upper (bytes_of s) m) where
-  pub cut-cover : cover_to t p ++ (paged (bytes_of s) q ++ cover_to t r) ≡ cover_to s m
-  cut-cover = parts-cover s t m (sym d ∙ is) low whole high (agrees s m (sym test ∙ may))
-
-  pub cut-length : length (cover_to t p) + (length (paged (bytes_of s) q) + length (cover_to t r)) ≡ length (cover_to s m)
-  cut-length = sym (length_three (cover_to t p) (paged (bytes_of s) q) (cover_to t r)) ∙ ap length cut-cover
 
 -- so it is as well to begin at the largest size that has one
 pub cover-largest_in : (m : Mapping) → Listable m → cover_to (largest_in m.size) m ≡ cover_to Page1G m

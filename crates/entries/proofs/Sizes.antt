@@ -8,7 +8,7 @@ use Rattle.std.specs.Prelude.{Option, None, Some}
 use Rattle.pages.specs.Claims.{Ladder, least}
 use Rattle.entries.specs.declared.PageSize.{PageSize}
 use Rattle.entries.specs.declared.PageSize.TheVariants.{Page4K, Page2M, Page1G}
-use Rattle.entries.specs.Sizes.{bytes_of, below, sizes_below}
+use Rattle.entries.specs.Sizes.{bytes_of, size_below, sizes_below}
 
 pub size_some : (s : PageSize) → 0 < bytes_of s
 size_some Page4K = omega arith
@@ -30,13 +30,13 @@ abbrev Smaller : PageSize → Option PageSize → Type 0
 Smaller s None = sizes_below s ≡ []
 Smaller s (Some t) = sizes_below s ≡ bytes_of t ∷ sizes_below t
 
-smaller : (s : PageSize) → Smaller s (below s)
+smaller : (s : PageSize) → Smaller s (size_below s)
 smaller Page4K = refl
 smaller Page2M = refl
 smaller Page1G = refl
 
-pub none_below : (s : PageSize) → below s ≡ None → sizes_below s ≡ []
+pub none_below : (s : PageSize) → size_below s ≡ None → sizes_below s ≡ []
 none_below s e = subst (Smaller s) e (smaller s)
 
-pub next_below : (s : PageSize) {t : PageSize} → below s ≡ Some t → sizes_below s ≡ bytes_of t ∷ sizes_below t
+pub next_below : (s : PageSize) {t : PageSize} → size_below s ≡ Some t → sizes_below s ≡ bytes_of t ∷ sizes_below t
 next_below s e = subst (Smaller s) e (smaller s)

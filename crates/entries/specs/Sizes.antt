@@ -1,13 +1,13 @@
 -- The sizes of a page, as the code goes down them, and what it writes.
 -- Assumes nothing.
 use Rattle.std.specs.Prelude.{◌≡◌, ℕ, ◌+◌, ◌*◌, ◌/◌, ◌≤◌, ltb, length, Option, None, Some}
-use mathlib.Core.List.{List, [], ◌∷◌, flat_map}
+use mathlib.Core.List.{List, [], ◌∷◌, ◌++◌, flat_map}
 use Rattle.model.specs.declared.Mapping.{Mapping}
 use Rattle.model.specs.Rows.{choose}
 use Rattle.model.specs.Rules.{limit, end}
 use Rattle.model.specs.Exactly.{Multiple}
 use Rattle.pages.specs.declared.Entry.{Entry}
-use Rattle.pages.specs.Pages.{middle, congruent, cover, entry_count, entry_words}
+use Rattle.pages.specs.Pages.{middle, congruent, paged, cover, entry_count, entry_words}
 use Rattle.words.specs.Words.{stored}
 use Rattle.entries.specs.declared.PageSize.{PageSize}
 use Rattle.entries.specs.declared.PageSize.TheVariants.{Page4K, Page2M, Page1G}
@@ -22,10 +22,10 @@ abbrev pub largest_in : ℕ → PageSize
 largest_in bytes = choose (ltb bytes 2097152) Page4K (choose (ltb bytes 1073741824) Page2M Page1G)
 
 -- the next smaller size, and all smaller ones
-abbrev pub below : PageSize → Option PageSize
-below Page4K = None
-below Page2M = Some Page4K
-below Page1G = Some Page2M
+abbrev pub size_below : PageSize → Option PageSize
+size_below Page4K = None
+size_below Page2M = Some Page4K
+size_below Page1G = Some Page2M
 
 abbrev pub sizes_below : PageSize → List ℕ
 sizes_below Page4K = []
@@ -55,6 +55,11 @@ pub record Within (m : Mapping) (a b : ℕ) : Type 0 where
   pub between : a ≤ b
   pub high : b ≤ end m
   pub multiples : Multiple a × Multiple b
+
+-- the three pieces of a mapping, the middle one in pages of size s, the others in those of t and below it, have its entries
+pub record Pieces (s t : PageSize) (m p q r : Mapping) : Type 0 where
+  pub entries : cover_to t p ++ (paged (bytes_of s) q ++ cover_to t r) ≡ cover_to s m
+  pub number : length (cover_to t p) + (length (paged (bytes_of s) q) + length (cover_to t r)) ≡ length (cover_to s m)
 
 -- the entries were written from `place` on, and `behind` is the place behind them
 pub record Wrote (before after : List ℕ) (place behind : ℕ) (es : List Entry) : Type 0 where

@@ -1,12 +1,12 @@
 // The page entries of one mapping (document 02, Item 12): counted without making them, then written.
 #![tactic(auto)]
 
-ghost use Rattle.std.specs.Prelude.{◌≡◌, ◌&&◌, ◌+◌, ◌-◌, ◌*◌, ◌/◌, ◌%◌, ◌^◌, ◌≤◌, leb, length};
+ghost use Rattle.std.specs.Prelude.{◌≡◌, ◌&&◌, ◌+◌, ◌-◌, ◌*◌, ◌/◌, ◌%◌, ◌^◌, ◌≤◌, leb, length, MatchOption};
 ghost use Rattle.model.specs.Rules.{limit, end};
 ghost use Rattle.model.specs.Calls.{reply_of};
-ghost use Rattle.pages.specs.Pages.{down, up, first_cut, last_cut, part, lower, middle, upper, congruent, paged};
+ghost use Rattle.pages.specs.Pages.{down, up, first_cut, last_cut, part, congruent, paged};
 ghost use Rattle.pages.specs.Pages.{page_entries};
-ghost use Rattle.entries.specs.Sizes.{bytes_of, below, largest_in, cover_to, whole_pages, count_to, Listable, Within, Wrote};
+ghost use Rattle.entries.specs.Sizes.{bytes_of, size_below, largest_in, cover_to, whole_pages, count_to, Listable, Within, Pieces, Wrote};
 
 use model::{Mapping, Range, Refusal, Space};
 
@@ -34,7 +34,7 @@ impl PageSize {
 
     // The next smaller size.
     fn below(self) -> Option<PageSize>
-        ensures { result ≡ below self }
+        ensures { result ≡ size_below self }
     {
         match self {
             PageSize::Page4K => None,
@@ -102,6 +102,14 @@ struct Part {
     ghost listable: { Listable mapping },
 }
 
+// The parts that two cuts make.
+#[derive(Clone, Copy)]
+struct Cut {
+    lower: Part,
+    middle: Part,
+    upper: Part,
+}
+
 impl Part {
     fn end(&self) -> u64
         ensures { result ≡ end self.now.mapping }
@@ -138,25 +146,6 @@ impl Part {
         }
     }
 
-    // The whole pages between the cuts, and the remainders on both sides.
-    fn lower(&self, size: PageSize) -> Part
-        ensures { result.mapping ≡ lower (bytes_of size) self.now.mapping }
-    {
-        self.between(self.mapping.address, self.first_cut(size))
-    }
-
-    fn middle(&self, size: PageSize) -> Part
-        ensures { result.mapping ≡ middle (bytes_of size) self.now.mapping }
-    {
-        self.between(self.first_cut(size), self.last_cut(size))
-    }
-
-    fn upper(&self, size: PageSize) -> Part
-        ensures { result.mapping ≡ upper (bytes_of size) self.now.mapping }
-    {
-        self.between(self.last_cut(size), self.end())
-    }
-
     // It may have a page of this size: it is no smaller, and address and offset differ by a multiple of the size.
     fn may_have(&self, size: PageSize) -> bool
         ensures { result ≡ (leb (bytes_of size) self.now.mapping.size && congruent (bytes_of size) self.now.mapping) }
@@ -172,7 +161,25 @@ impl Part {
         if !self.may_have(size) {
             return 0;
         }
-        size.pages_in(self.middle(size).mapping.size)
+        size.pages_in(self.last_cut(size) - self.first_cut(size))
+    }
+
+    // The whole pages between the cuts and the remainders on both sides, which are for the size below; or none, where all of
+    // it is for the size below.
+    fn cut(&self, size: PageSize, below: PageSize) -> Option<Cut>
+        requires { size_below size ≡ Some below }
+        ensures { MatchOption result (cover_to below self.now.mapping ≡ cover_to size self.now.mapping) (λ c. Pieces size below self.now.mapping c.lower.mapping c.middle.mapping c.upper.mapping) }
+    {
+        if !self.may_have(size) {
+            return None;
+        }
+        let first = self.first_cut(size);
+        let last = self.last_cut(size);
+        Some(Cut {
+            lower: self.between(self.mapping.address, first),
+            middle: self.between(first, last),
+            upper: self.between(last, self.end()),
+        })
     }
 
     // How many entries it has: as many as pages of 4 KiB, but one for each 512 of them in a page of 2 MiB, and one for
@@ -209,15 +216,12 @@ impl Part {
         let Some(below) = size.below() else {
             return self.write_pages(size, out);
         };
-        if !self.may_have(size) {
+        let Some(cut) = self.cut(size, below) else {
             return self.write(below, out);
-        }
-        let lower = self.lower(size);
-        let middle = self.middle(size);
-        let upper = self.upper(size);
-        let mut words = lower.write(below, out);
-        words += middle.write_pages(size, &mut out[words..]);
-        words += upper.write(below, &mut out[words..]);
+        };
+        let mut words = cut.lower.write(below, out);
+        words += cut.middle.write_pages(size, &mut out[words..]);
+        words += cut.upper.write(below, &mut out[words..]);
         words
     }
 }

@@ -1,0 +1,21 @@
+use mathlib.Core.Path.{sym, ap, ap₂, ◌∙◌}
+use Prim.Native.Nat.{ℕ}
+use Rattle.pages.specs.Pages.{part}
+use Rattle.entries.proofs.Counts.{pieces, cover-below}
+use Rattle.entries.proofs.Part.cut.Goals as goal
+
+pub returns-then-not-may_have : goal.returns-then-not-may_have
+returns-then-not-may_have c =
+    let p = c.args.self.now in
+    cover-below c.args.size _ p.mapping c.requires p.listable (sym c.may_have.ensures ∙ c.if-not-may_have.true)
+
+pub returns : goal.returns
+returns c =
+    let m = c.args.self.now.mapping in
+    let first = c.first_cut-first.ensures in
+    let last = c.last_cut-last.ensures in
+    pieces c.args.size _ m c.requires
+    (c.between.ensures ∙ ap (λ (x : ℕ). part m.address x m) first)
+    (c.between-2.ensures ∙ ap₂ (λ (x y : ℕ). part x y m) first last)
+    (c.between-3.ensures ∙ ap₂ (λ (x y : ℕ). part x y m) last c.end.ensures)
+    (sym c.may_have.ensures ∙ c.if-not-may_have.false)
