@@ -2,8 +2,9 @@
 -- Assumes nothing.
 use mathlib.Core.Path.{◌≡◌, refl, subst}
 use mathlib.Core.List.{[], ◌∷◌}
-use Prim.Native.Nat.{◌<◌}
+use Prim.Native.Nat.{ℕ, ◌^◌, ◌≤◌, ◌<◌}
 use native.Mathlib.Omega.{arith}
+use lib.Count.{count_trailing_zeros}
 use Rattle.std.specs.Prelude.{Option, None, Some}
 use Rattle.pages.specs.Claims.{Ladder, least}
 use Rattle.entries.specs.declared.PageSize.{PageSize}
@@ -40,3 +41,10 @@ none_below s e = subst (Smaller s) e (smaller s)
 
 pub next_below : (s : PageSize) {t : PageSize} → size_below s ≡ Some t → sizes_below s ≡ bytes_of t ∷ sizes_below t
 next_below s e = subst (Smaller s) e (smaller s)
+
+-- the sizes are powers of 2
+pub size_bits : (s : PageSize) → (count_trailing_zeros 64 (bytes_of s) ≤ 30) × (2 ^ count_trailing_zeros 64 (bytes_of s) ≡ bytes_of s)
+unfolding count_trailing_zeros
+size_bits Page4K = (omega arith, refl)
+size_bits Page2M = (omega arith, refl)
+size_bits Page1G = (omega arith, refl)

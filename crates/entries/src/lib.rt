@@ -47,9 +47,9 @@ impl PageSize {
         ensures { result ≡ bytes_of self }
     {
         match self {
-            PageSize::Page4K => 4096,
-            PageSize::Page2M => 2097152,
-            PageSize::Page1G => 1073741824,
+            PageSize::Page4K => 4 << 10,
+            PageSize::Page2M => 2 << 20,
+            PageSize::Page1G => 1 << 30,
         }
     }
 
@@ -58,11 +58,7 @@ impl PageSize {
         ensures few { result ≤ 30 }
         ensures power { 2 ^ result ≡ bytes_of self }
     {
-        match self {
-            PageSize::Page4K => 12,
-            PageSize::Page2M => 21,
-            PageSize::Page1G => 30,
-        }
+        self.bytes().trailing_zeros()
     }
 
     // How many pages so many bytes are.
