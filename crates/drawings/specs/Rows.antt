@@ -1,11 +1,19 @@
--- What the contracts of the program say: a field in pages as a word, and where two lists of words differ.
-use Rattle.std.specs.Prelude.{◌≡◌, ℕ, ◌-◌, ◌*◌, ◌<◌, ◌≤◌, List, length, ◌==◌, ◌≢◌, slice_index}
-use Rattle.model.specs.Rows.{choose}
+-- What the contracts of the program say: the words that a row stands for, and where two lists of words differ.
+use Rattle.std.specs.Prelude.{◌≡◌, ℕ, ◌<◌, ◌≤◌, List, length, ◌≢◌, slice_index, replicate, Option, Some, None}
+use Rattle.model.specs.declared.Mapping.{Mapping}
+use Rattle.model.specs.declared.Operation.{Operation}
+use Rattle.model.specs.Table.{words_of}
+use Rattle.model.specs.Layout.{absent, words_of_operation}
 
--- the word of a mapping's field: 0 the address, 1 the size, from the first page and the one behind the last, 2 the
--- object, 3 the offset
-abbrev pub word_of : ℕ → ℕ → ℕ → ℕ
-word_of field first n = choose (field == 2) n (choose (field == 1) ((n - first) * 4096) (n * 4096))
+-- a table's words at a place: the mapping's there, or zeros
+abbrev pub mapping_words : Option Mapping → List ℕ
+mapping_words (Some m) = words_of m
+mapping_words None = absent
+
+-- an operation slice's words at a place: the operation's there, or nines
+abbrev pub operation_words : Option Operation → List ℕ
+operation_words (Some o) = words_of_operation o
+operation_words None = replicate 14 9
 
 -- i is the first place where a and b differ, or their length
 pub record FirstDifference (a b : List ℕ) (i : ℕ) : Type 0 where

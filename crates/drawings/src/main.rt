@@ -6,188 +6,135 @@
 mod rows;
 mod show;
 
-ghost use Rattle.std.specs.Prelude.{◌≡◌, ◌≤◌, length};
+ghost use Rattle.std.specs.Prelude.{◌≡◌, ◌<◌, length, MatchOption};
 ghost use Rattle.drawings.specs.Rows.{FirstDifference};
 
 use bind::Numbers;
-use model::{Answer, Range, Space};
-use rows::Column;
+use model::{Grant, Range, Refusal, Space};
+use rows::{OPERATIONS, ROOM, Row, count, mapping_words, operation_words};
+use show::{Drawn, first};
+use std::fmt;
 
-// An answer in words: refusal and its place, operations and count.
-fn answer_words(a: Answer) -> [u64; 4] {
-    match a {
-        Answer::Granted(g) => [0, 0, g.operations as u64, g.count as u64],
-        Answer::Refused(w) => {
-            let number = rules::refusal_number(w) as u64;
-            let place = rules::refusal_place(w) as u64;
-            [number, place, 0, 0]
-        }
-    }
+// A row that was asked: what the call answered, and the words that it left.
+#[derive(Clone, Copy)]
+struct Asked<'a> {
+    row: Row<'a>,
+    answer: Result<Grant, Refusal>,
+    table: [[u64; 4]; ROOM],
+    operations: [[u64; 14]; OPERATIONS],
 }
 
 // Asks the public call to map, in a space of 16 pages with nothing reserved, on as many words as a
-// table with so much room has.
-fn ask(
-    room: usize,
-    table: &mut [u64],
-    count: usize,
-    operations: &mut [u64],
-    mapping: &[u64; 32],
-) -> [u64; 4]
-    requires { (room ≤ 8) × (length table.old ≡ 32) × (length operations.old ≡ 126) }
-{
-    let s = Space {
+// table with the row's room has. The operation slice holds nines before.
+fn ask(row: Row<'_>) -> Asked<'_> {
+    let space = Space {
         start: 0,
         size: 65536,
         reserved: Range { start: 0, size: 0 },
     };
-    let q = Numbers {
+    let request = Numbers {
         op: 0,
-        address: mapping[0],
-        size: mapping[1],
-        object: mapping[2],
-        offset: mapping[3],
+        address: row.request.address,
+        size: row.request.size,
+        object: row.request.object,
+        offset: row.request.offset,
     };
-    let lent_table = &mut table[..4 * room];
-    let lent_operations = &mut operations[..14 * (room + 1)];
-    answer_words(bind::bind(s, &[], 0, lent_table, count, lent_operations, q))
-}
-
-// The first place where two runs of words differ; their length where they do not.
-fn first_difference(a: &[u64], b: &[u64]) -> usize
-    requires { length a.now ≡ length b.now }
-    ensures { FirstDifference a.now b.now result }
-{
-    let mut i = 0;
-    while i < a.len() {
-        if a[i] != b[i] {
-            return i;
-        }
-        i += 1;
+    let mut table = row.old.map(mapping_words);
+    let mut operations = [[9; 14]; OPERATIONS];
+    let answer = bind::bind(
+        space,
+        &[],
+        0,
+        table[..row.room].as_flattened_mut(),
+        count(&row.old),
+        operations[..row.room + 1].as_flattened_mut(),
+        request,
+    );
+    Asked {
+        row,
+        answer,
+        table,
+        operations,
     }
-    i
 }
 
-// Says where words differ from the expected ones: 1 if they do, else 0.
-fn compare(rt: &impl Print, name: &[u8], words: &[u64], expected: &[u64]) -> usize
+// A row's line, from the words that the call was given, answered and left.
+impl fmt::Display for Asked<'_> {
+    fn fmt<W: fmt::Write>(&self, f: &mut fmt::Formatter<W>) -> fmt::Result {
+        let row = self.row;
+        let given = row.old.map(mapping_words);
+        let old = Drawn(first(&given, count(&row.old)));
+        write!(f, "| {} | {old}", row.label)?;
+        if row.room != ROOM {
+            write!(f, ", capacity {}", row.room)?;
+        }
+        write!(f, " | map {} | ", Drawn(row.request))?;
+        match self.answer {
+            Ok(grant) => {
+                let operations = Drawn(first(&self.operations, grant.operations));
+                let table = Drawn(first(&self.table, grant.count));
+                write!(f, "{operations}; operations {}, ", grant.operations)?;
+                write!(f, "count {} | {table} |", grant.count)
+            }
+            // A refusal leaves the count.
+            Err(refusal) => {
+                let table = Drawn(first(&self.table, count(&row.old)));
+                write!(f, "refused {} | {table} |", rules::refusal_number(refusal))
+            }
+        }
+    }
+}
+
+// The first place where two runs of words differ, if they do.
+fn first_difference(words: &[u64], expected: &[u64]) -> Option<usize>
     requires { length words.now ≡ length expected.now }
-    ensures { result ≤ 1 }
+    ensures { MatchOption result (words.now ≡ expected.now) (λ place. (place < length words.now) × FirstDifference words.now expected.now place) }
 {
-    let place = first_difference(words, expected);
-    if place == words.len() {
-        return 0;
+    words
+        .iter()
+        .zip(expected)
+        .position(|(word, expected)| word != expected)
+}
+
+// Runs and prints a line of the table: whether a word differs from what the row expects. A write that
+// fails is passed over: the rows are compared all the same.
+fn differs(rt: &impl Print, line: &str) -> bool {
+    let Some(row) = Row::parse(line) else {
+        let _ = println!(rt; "{line} DIFFERS: no row");
+        return true;
+    };
+    let asked = ask(row);
+    let _ = print!(rt; "{asked}");
+    let answer = row.expects(asked.answer);
+    if !answer {
+        let _ = print!(rt; " DIFFERS: answer");
     }
-    show::text(rt, b" DIFFERS: ");
-    show::text(rt, name);
-    show::number(rt, b" word ", place as u64);
-    1
-}
-
-// The first half of a row's line, from the words that the call is given: what is mapped stands at
-// the head of its words.
-fn show_question(
-    rt: &impl Print,
-    label: u32,
-    room: usize,
-    table: &[u64],
-    count: u64,
-    request: &[u64; 32],
-) {
-    show::number(rt, b"| ", label as u64);
-    show::text(rt, b" | ");
-    show::records(rt, table, count, 4);
-    if room != 8 {
-        show::number(rt, b", capacity ", room as u64);
+    let expected = row.new.map(mapping_words);
+    let table = first_difference(asked.table.as_flattened(), expected.as_flattened());
+    if let Some(word) = table {
+        let _ = print!(rt; " DIFFERS: table word {word}");
     }
-    show::text(rt, b" | map ");
-    show::mapping(rt, request, 0);
-    show::text(rt, b" | ");
-}
-
-// The second half, from the words that the call answers and leaves. A refusal leaves the count.
-fn show_result(rt: &impl Print, answer: &[u64; 4], table: &[u64], count: u64, operations: &[u64]) {
-    if answer[0] != 0 {
-        show::number(rt, b"refused ", answer[0]);
-        show::text(rt, b" | ");
-        show::records(rt, table, count, 4);
-        return;
+    let expected = row
+        .result
+        .unwrap_or([None; OPERATIONS])
+        .map(operation_words);
+    let operations = first_difference(asked.operations.as_flattened(), expected.as_flattened());
+    if let Some(word) = operations {
+        let _ = print!(rt; " DIFFERS: operations word {word}");
     }
-    show::records(rt, operations, answer[2], 14);
-    show::number(rt, b"; operations ", answer[2]);
-    show::number(rt, b", count ", answer[3]);
-    show::text(rt, b" | ");
-    show::records(rt, table, answer[3], 4);
-}
-
-// The end of a row's line: every word against what the row's last two columns say.
-fn differs(
-    rt: &impl Print,
-    answer: &[u64; 4],
-    table: &[u64; 32],
-    operations: &[u64; 126],
-    res: Column,
-    new: Column,
-) -> usize
-    requires { (res.count ≤ 32) × (new.count ≤ 32) }
-    ensures { result ≤ 1 }
-{
-    show::text(rt, b" |");
-    let a = compare(rt, b"answer", answer, &rows::answer_words(res, new));
-    let t = compare(rt, b"table", table, &rows::table_words(new));
-    let o = compare(rt, b"operations", operations, &rows::operation_words(res));
-    show::text(rt, b"\n");
-    if a + t + o == 0 { 0 } else { 1 }
-}
-
-// Runs and prints one row: 1 if a word differs from what the row expects, else 0.
-fn row(rt: &impl Print, line: &[u8]) -> usize
-    ensures { result ≤ 1 }
-{
-    let label = rows::read_column(line, 1);
-    let old = rows::read_column(line, label.next);
-    let request = rows::read_column(line, old.next);
-    let result = rows::read_column(line, request.next);
-    let new = rows::read_column(line, result.next);
-    let mut table = rows::table_words(old);
-    let mut operations = [9u64; 126];
-    let count = old.count / 4;
-    let room = rows::room(label);
-    let mapping = rows::table_words(request);
-    show_question(rt, label.numbers[0], room, &table, count as u64, &mapping);
-    let answer = ask(room, &mut table, count, &mut operations, &mapping);
-    show_result(rt, &answer, &table, count as u64, &operations);
-    differs(rt, &answer, &table, &operations, result, new)
-}
-
-// Where the line from `from` on ends.
-fn line_end(text: &[u8], from: usize) -> usize
-    requires { from ≤ length text.now }
-    ensures { (from ≤ result) × (result ≤ length text.now) }
-{
-    let mut at = from;
-    while at < text.len() {
-        if text[at] == b'\n' {
-            return at;
-        }
-        at += 1;
-    }
-    at
+    let _ = println!(rt);
+    !answer || table.is_some() || operations.is_some()
 }
 
 // Runs every line of a table, and says how many rows there are and how many differ.
-fn run(rt: &impl Print, text: &[u8]) {
-    let mut rows: usize = 0;
+fn run(rt: &impl Print, table: &str) {
     let mut differ: usize = 0;
-    let mut at = 0;
-    while at < text.len() {
-        let end = line_end(text, at);
-        differ += row(rt, &text[at..end]);
-        rows += 1;
-        at = end + 1;
+    for line in table.lines() {
+        if differs(rt, line) {
+            differ += 1;
+        }
     }
-    show::number(rt, b"", rows as u64);
-    show::number(rt, b" rows, ", differ as u64);
-    show::text(rt, b" differ\n");
+    let _ = println!(rt; "{} rows, {differ} differ", table.lines().count());
 }
 
 // A row: label; old mappings; what to map; the operations, each with its kind, keep, mapping, lower
@@ -196,13 +143,11 @@ fn run(rt: &impl Print, text: &[u8]) {
 // 20 to 23 of document 02's keep mark: 13 and 14 with contiguous offsets; offsets below the address;
 // one below it and one above.
 fn main(rt: HostRuntime) {
-    show::text(
-        &rt,
-        b"| | old | request | result | table afterwards |\n|---|---|---|---|---|\n",
-    );
+    let _ = println!(rt; "| | old | request | result | table afterwards |");
+    let _ = println!(rt; "|---|---|---|---|---|");
     run(
         &rt,
-        b"| 1 | [0,1) 7@1 | [0,1) 7@1 | unmap keep 1 [0,1) 7@1 - -, map keep 0 [0,1) 7@1 - - | [0,1) 7@1 |
+        "| 1 | [0,1) 7@1 | [0,1) 7@1 | unmap keep 1 [0,1) 7@1 - -, map keep 0 [0,1) 7@1 - - | [0,1) 7@1 |
 | 2 | [0,1) 7@1 | [0,1) 7@4 | unmap keep 0 [0,1) 7@1 - -, map keep 0 [0,1) 7@4 - - | [0,1) 7@4 |
 | 3 | [0,1) 7@1 | [0,1) 9@1 | unmap keep 0 [0,1) 7@1 - -, map keep 0 [0,1) 9@1 - - | [0,1) 9@1 |
 | 4 | [0,1) 7@1 | [0,2) 7@1 | unmap keep 1 [0,1) 7@1 - -, map keep 0 [0,2) 7@1 - - | [0,2) 7@1 |

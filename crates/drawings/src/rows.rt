@@ -1,153 +1,215 @@
-// A row of the program's table, as numbers in pages and as the words that a call is given or leaves.
-ghost use Rattle.std.specs.Prelude.{◌≡◌, ◌<◌, ◌≤◌, length};
-ghost use Rattle.drawings.specs.Rows.{word_of};
+// A row of the program's table, read, and the words that a call is given or leaves for it.
+ghost use Rattle.std.specs.Prelude.{◌≡◌, ◌≤◌, ◌∷◌, ◌++◌, IfSome};
+ghost use Rattle.model.specs.Rows.{choose};
+ghost use Rattle.model.specs.Table.{words_of};
+ghost use Rattle.model.specs.Layout.{words_of_operation};
+ghost use Rattle.model.specs.Drawings.{at};
+ghost use Rattle.drawings.specs.Rows.{mapping_words, operation_words};
+
+use model::{Grant, Mapping, Operation, Refusal, Rests};
+use std::str::SplitWhitespace;
 
 pub const PAGE: u64 = 4096;
 
-// A column's numbers, zeros behind them, where the next column starts, and the last byte read.
+// The mappings that a table has room for, where its row says nothing else, and the operations that
+// a call on it has room for.
+pub const ROOM: usize = 8;
+
+pub const OPERATIONS: usize = ROOM + 1;
+
+// What a row asks, and what it expects: the operations or a refusal's number, and the mappings
+// afterwards.
 #[derive(Clone, Copy)]
-pub struct Column {
-    pub numbers: [u32; 32],
-    pub count: usize,
-    pub next: usize,
-    last: u8,
+pub struct Row<'a> {
+    pub label: &'a str,
+    pub room: usize,
+    pub old: [Option<Mapping>; ROOM],
+    pub request: Mapping,
+    pub result: Result<[Option<Operation>; OPERATIONS], u32>,
+    pub new: [Option<Mapping>; ROOM],
+    ghost fits: { room ≤ 8 },
 }
 
-fn is_digit(b: u8) -> bool {
-    (b'0' <= b) & (b <= b'9')
-}
+impl<'a> Row<'a> {
+    // The row that a line of the table is.
+    pub fn parse(line: &'a str) -> Option<Row<'a>> {
+        let mut columns = line.strip_prefix("| ")?.strip_suffix(" |")?.split(" | ");
+        let (label, room) = label_and_room(columns.next()?)?;
+        let old = list(columns.next()?, mapping)?;
+        let request = mapping(columns.next()?)?;
+        let result = result_in(columns.next()?)?;
+        let new = list(columns.next()?, mapping)?;
+        Some(Row {
+            label,
+            room,
+            old,
+            request,
+            result,
+            new,
+        })
+    }
 
-// The column with one byte more. `-` is the four numbers of an absent rest. `map`, `remap` and
-// `unmap` are an operation's kind, by the letter before their m. Other letters are for the reader.
-fn with_byte(c: Column, b: u8) -> Column
-    requires { c.count ≤ 32 }
-    ensures { result.count ≤ 32 }
-{
-    let at = c.count;
-    // Two operations, the most that a row has, are 28 numbers.
-    if 28 < at {
-        return c;
-    }
-    let mut longer = c;
-    longer.last = b;
-    if is_digit(b) {
-        // b'0' is 48, so a digit's remainder is its value.
-        longer.numbers[at] = c.numbers[at] % 1000 * 10 + (b % b'0') as u32;
-        return longer;
-    }
-    if b == b'-' {
-        longer.count = at + 4;
-        return longer;
-    }
-    if b == b'm' {
-        longer.numbers[at] = kind_after(c.last);
-        longer.count = at + 1;
-        return longer;
-    }
-    if is_digit(c.last) {
-        longer.count = at + 1;
-    }
-    longer
-}
-
-fn kind_after(b: u8) -> u32 {
-    match b {
-        b'e' => 1,
-        b'n' => 2,
-        _ => 0,
-    }
-}
-
-// The column that starts at `from`, up to the next bar.
-pub fn read_column(line: &[u8], from: usize) -> Column
-    ensures { result.count ≤ 32 }
-{
-    let mut c = Column {
-        numbers: [0; 32],
-        count: 0,
-        next: 0,
-        last: 0,
-    };
-    let mut at = from;
-    while at < line.len() {
-        let b = line[at];
-        at += 1;
-        if b == b'|' {
-            break;
+    // Whether this is the answer that the row expects: no refusal of a row has a place, and there is
+    // no list of sparse ranges.
+    pub fn expects(&self, answer: Result<Grant, Refusal>) -> bool {
+        match (answer, self.result) {
+            (Ok(grant), Ok(operations)) => {
+                grant.operations == count(&operations)
+                    && grant.count == count(&self.new)
+                    && grant.ranges == 0
+            }
+            (Err(refusal), Err(number)) => {
+                rules::refusal_number(refusal) == number && rules::refusal_place(refusal) == 0
+            }
+            _ => false,
         }
-        c = with_byte(c, b);
     }
-    c.next = at;
-    c
 }
 
-// The word of a mapping's field. A size is written as the first page and the one behind the last.
-fn word(field: usize, start: u32, n: u32) -> u64
-    ensures { result ≡ word_of field start n }
+// How many items a list has.
+pub fn count<T>(list: &[Option<T>]) -> usize {
+    list.iter().flatten().count()
+}
+
+// A row's label, and the capacity behind it.
+fn label_and_room(column: &str) -> Option<(&str, usize)>
+    ensures { IfSome result (λ pair. pair.1 ≤ ROOM) }
 {
-    if field == 2 {
-        return n as u64;
+    match column.split_once(", capacity ") {
+        None => Some((column, ROOM)),
+        Some((label, room)) => {
+            let room = room.parse().ok()?;
+            (room <= ROOM).then_some((label, room))
+        }
     }
-    if field != 1 {
-        return n as u64 * PAGE;
-    }
-    if n < start {
-        return 0;
-    }
-    (n - start) as u64 * PAGE
 }
 
-// Writes a column over the first words: records of `size` numbers, of which the first `lead` are
-// plain, as an object is, and the others mappings.
-fn put(words: &mut [u64], numbers: &[u32; 32], count: usize, size: usize, lead: usize)
-    requires { (count ≤ 32) × (32 ≤ length words.old) × (0 < size) }
+// The items of a column, or `none`.
+fn list<T: Copy, const N: usize, F: Fn(&str) -> Option<T>>(
+    column: &str,
+    item: F,
+) -> Option<[Option<T>; N]>
+    requires { F.IsAlwaysCallable item }
 {
-    let mut start = 0;
-    let mut i = 0;
-    while i < count {
-        let j = i % size;
-        let field = if j < lead { 2 } else { (j - lead) % 4 };
-        words[i] = word(field, start, numbers[i]);
-        start = numbers[i];
-        i += 1;
+    let mut items = [None; N];
+    if column == "none" {
+        return Some(items);
+    }
+    let mut texts = column.split(", ");
+    for (place, text) in items.iter_mut().zip(&mut texts) {
+        *place = Some(item(text)?);
+    }
+    texts.next().is_none().then_some(items)
+}
+
+// The operations, or the number of a refusal.
+fn result_in(column: &str) -> Option<Result<[Option<Operation>; OPERATIONS], u32>> {
+    match column.strip_prefix("refused ") {
+        Some(number) => Some(Err(number.parse().ok()?)),
+        None => Some(Ok(list(column, operation)?)),
     }
 }
 
-// The words of a table with room for eight mappings, zeros behind those of the column.
-pub fn table_words(c: Column) -> [u64; 32]
-    requires { c.count ≤ 32 }
-{
-    let numbers = c.numbers;
-    let mut words = [0u64; 32];
-    put(&mut words, &numbers, c.count, 4, 0);
-    words
+fn mapping(text: &str) -> Option<Mapping> {
+    let (range, place) = text.split_once(' ')?;
+    in_pages(range, place)
 }
 
-// The words of the operation slice, nines behind those of the column. A single number is a refusal.
-pub fn operation_words(res: Column) -> [u64; 126]
-    requires { res.count ≤ 32 }
-{
-    let numbers = res.numbers;
-    let mut words = [9u64; 126];
-    if res.count != 1 {
-        put(&mut words, &numbers, res.count, 14, 2);
-    }
-    words
-}
-
-// The words of the answer: a refusal and place 0, or the number of operations and of mappings.
-pub fn answer_words(res: Column, new: Column) -> [u64; 4] {
-    if res.count == 1 {
-        [res.numbers[0] as u64, 0, 0, 0]
-    } else {
-        [0, 0, (res.count / 14) as u64, (new.count / 4) as u64]
+// An operation: its kind, keep, mapping, lower and upper rest.
+fn operation(text: &str) -> Option<Operation> {
+    let (kind, words) = text.split_once(" keep ")?;
+    let mut words = words.split_whitespace();
+    let keep = match words.next()? {
+        "0" => false,
+        "1" => true,
+        _ => return None,
+    };
+    let named = in_pages(words.next()?, words.next()?)?;
+    let lower = rest(&mut words)?;
+    let upper = rest(&mut words)?;
+    match (kind, keep, lower, upper) {
+        ("map", false, None, None) => Some(Operation::Map(named)),
+        ("unmap", _, None, None) => Some(Operation::Unmap(keep, named)),
+        ("remap", _, Some(l), None) => Some(Operation::Remap(keep, named, Rests::Lower(l))),
+        ("remap", _, None, Some(u)) => Some(Operation::Remap(keep, named, Rests::Upper(u))),
+        ("remap", _, Some(l), Some(u)) => Some(Operation::Remap(keep, named, Rests::Both(l, u))),
+        _ => None,
     }
 }
 
-// The capacity behind a row's label, or eight.
-pub fn room(label: Column) -> usize
-    ensures { result ≤ 8 }
+// A rest, where `-` is an absent one.
+fn rest(words: &mut SplitWhitespace<'_>) -> Option<Option<Mapping>> {
+    match words.next()? {
+        "-" => Some(None),
+        range => Some(Some(in_pages(range, words.next()?)?)),
+    }
+}
+
+// A mapping from its two words, as `[0,2)` and `7@1`.
+fn in_pages(range: &str, place: &str) -> Option<Mapping> {
+    let (first, end) = range.strip_prefix('[')?.strip_suffix(')')?.split_once(',')?;
+    let (object, offset) = place.split_once('@')?;
+    Some(from_pages(
+        first.parse().ok()?,
+        end.parse().ok()?,
+        object.parse().ok()?,
+        offset.parse().ok()?,
+    ))
+}
+
+fn from_pages(first: u32, end: u32, object: u32, offset: u32) -> Mapping
+    ensures { words_of result ≡ at first end object offset }
 {
-    let asked = label.numbers[1] as usize % 8;
-    if asked == 0 { 8 } else { asked }
+    Mapping {
+        address: u64::from(first) * PAGE,
+        size: u64::from(end.saturating_sub(first)) * PAGE,
+        object: u64::from(object),
+        offset: u64::from(offset) * PAGE,
+    }
+}
+
+// The words of a place in a table: a mapping's, or zeros.
+pub fn mapping_words(place: Option<Mapping>) -> [u64; 4]
+    ensures { result ≡ mapping_words place }
+{
+    let m = place.unwrap_or_default();
+    [m.address, m.size, m.object, m.offset]
+}
+
+// The words of a place in an operation slice: an operation's, or nines.
+pub fn operation_words(place: Option<Operation>) -> [u64; 14]
+    ensures { result ≡ operation_words place }
+{
+    place.map_or([9; 14], words_of_operation)
+}
+
+// The words of an operation: its kind, its keep mark, the mapping that it names, and the lower and
+// the upper rest, of which an absent one is four zeros.
+fn words_of_operation(operation: Operation) -> [u64; 14]
+    ensures { result ≡ words_of_operation operation }
+{
+    let absent = Mapping::default();
+    let (kind, keep, named, lower, upper) = match operation {
+        Operation::Map(new) => (0, false, new, absent, absent),
+        Operation::Remap(keep, old, Rests::Lower(lower)) => (1, keep, old, lower, absent),
+        Operation::Remap(keep, old, Rests::Upper(upper)) => (1, keep, old, absent, upper),
+        Operation::Remap(keep, old, Rests::Both(lower, upper)) => (1, keep, old, lower, upper),
+        Operation::Unmap(keep, old) => (2, keep, old, absent, absent),
+    };
+    [
+        kind,
+        u64::from(keep),
+        named.address,
+        named.size,
+        named.object,
+        named.offset,
+        lower.address,
+        lower.size,
+        lower.object,
+        lower.offset,
+        upper.address,
+        upper.size,
+        upper.object,
+        upper.offset,
+    ]
 }

@@ -1,77 +1,88 @@
-// Prints words in the notation of document 01: mappings in pages, operations by kind and keep.
-ghost use Rattle.std.specs.Prelude.{◌+◌, ◌≤◌, length};
-
+// Shows rows and words in the notation of document 01: mappings in pages, operations by kind and keep.
 use crate::rows::PAGE;
+use model::{Mapping, Operation, Rests};
+use std::fmt;
 
-// A write that fails is passed over: the rows are compared all the same.
-pub fn text(rt: &impl Print, bytes: &[u8]) {
-    let _ = rt.write_all(bytes);
-}
+// What it wraps, in that notation.
+#[derive(Clone, Copy)]
+pub struct Drawn<T>(pub T);
 
-// A number, and what stands before it.
-pub fn number(rt: &impl Print, before: &[u8], n: u64) {
-    text(rt, before);
-    let _ = print!(rt; "{n}");
-}
-
-// The mapping in the four words from `at` on, as `[0,2) 7@1`. The end of wrong words may wrap.
-pub fn mapping(rt: &impl Print, words: &[u64], at: usize)
-    requires { at + 4 ≤ length words.now }
-{
-    let end = std::num::wrapping_add_u64(words[at], words[at + 1]);
-    number(rt, b"[", words[at] / PAGE);
-    number(rt, b",", end / PAGE);
-    number(rt, b") ", words[at + 2]);
-    number(rt, b"@", words[at + 3] / PAGE);
-}
-
-// A rest that is not absent.
-fn rest(rt: &impl Print, name: &[u8], words: &[u64], at: usize)
-    requires { at + 4 ≤ length words.now }
-{
-    if words[at + 1] != 0 {
-        text(rt, name);
-        mapping(rt, words, at);
+impl fmt::Display for Drawn<Mapping> {
+    fn fmt<W: fmt::Write>(&self, f: &mut fmt::Formatter<W>) -> fmt::Result {
+        let m = self.0;
+        let first = m.address / PAGE;
+        // The end of wrong words may wrap.
+        let end = m.address.wrapping_add(m.size) / PAGE;
+        write!(f, "[{first},{end}) {}@{}", m.object, m.offset / PAGE)
     }
 }
 
-// The operation in the fourteen words from `at` on. The mapping that it names is the old one or the
-// request's, which stand beside it.
-fn operation(rt: &impl Print, words: &[u64], at: usize)
-    requires { at + 14 ≤ length words.now }
-{
-    match words[at] {
-        0 => text(rt, b"map"),
-        1 => number(rt, b"remap keep ", words[at + 1]),
-        _ => number(rt, b"unmap keep ", words[at + 1]),
-    }
-    rest(rt, b", lower ", words, at + 6);
-    rest(rt, b", upper ", words, at + 10);
-}
-
-// The first records of a run of words, or `none`: mappings of four words, operations of fourteen. A
-// count above what there is room for shows no more than there is.
-pub fn records(rt: &impl Print, words: &[u64], count: u64, size: usize)
-    requires { 4 ≤ size }
-{
-    if count == 0 {
-        text(rt, b"none");
-    }
-    let mut left = count;
-    let mut at = 0;
-    while 0 < left {
-        if words.len() - at < size {
-            return;
+impl fmt::Display for Drawn<Rests> {
+    fn fmt<W: fmt::Write>(&self, f: &mut fmt::Formatter<W>) -> fmt::Result {
+        match self.0 {
+            Rests::Lower(lower) => write!(f, "lower {}", Drawn(lower)),
+            Rests::Upper(upper) => write!(f, "upper {}", Drawn(upper)),
+            Rests::Both(lower, upper) => {
+                write!(f, "lower {}, upper {}", Drawn(lower), Drawn(upper))
+            }
         }
-        if 0 < at {
-            text(rt, b", ");
-        }
-        if size < 14 {
-            mapping(rt, words, at);
-        } else {
-            operation(rt, words, at);
-        }
-        at += size;
-        left -= 1;
     }
+}
+
+// The mapping that an operation names is the old one or the request's, which stand beside it.
+impl fmt::Display for Drawn<Operation> {
+    fn fmt<W: fmt::Write>(&self, f: &mut fmt::Formatter<W>) -> fmt::Result {
+        match self.0 {
+            Operation::Map(_) => write!(f, "map"),
+            Operation::Remap(keep, _, rests) => {
+                write!(f, "remap keep {}, {}", u8::from(keep), Drawn(rests))
+            }
+            Operation::Unmap(keep, _) => write!(f, "unmap keep {}", u8::from(keep)),
+        }
+    }
+}
+
+// The words of a mapping.
+impl fmt::Display for Drawn<[u64; 4]> {
+    fn fmt<W: fmt::Write>(&self, f: &mut fmt::Formatter<W>) -> fmt::Result {
+        let [address, size, object, offset] = self.0;
+        let mapping = Mapping {
+            address,
+            size,
+            object,
+            offset,
+        };
+        write!(f, "{}", Drawn(mapping))
+    }
+}
+
+// The words of an operation; those of none as they are.
+impl fmt::Display for Drawn<[u64; 14]> {
+    fn fmt<W: fmt::Write>(&self, f: &mut fmt::Formatter<W>) -> fmt::Result {
+        match cut::read_operation(&self.0) {
+            Some(operation) => write!(f, "{}", Drawn(operation)),
+            None => write!(f, "{:?}", self.0),
+        }
+    }
+}
+
+impl<T: Copy> fmt::Display for Drawn<&[T]>
+where
+    Drawn<T>: fmt::Display,
+{
+    fn fmt<W: fmt::Write>(&self, f: &mut fmt::Formatter<W>) -> fmt::Result {
+        let [first, others @ ..] = self.0 else {
+            return write!(f, "none");
+        };
+        write!(f, "{}", Drawn(*first))?;
+        for item in others {
+            write!(f, ", {}", Drawn(*item))?;
+        }
+        Ok(())
+    }
+}
+
+// The first items of a run, or all where it has fewer.
+pub fn first<T>(items: &[T], count: usize) -> &[T] {
+    items.get(..count).unwrap_or(items)
 }
