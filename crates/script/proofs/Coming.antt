@@ -18,9 +18,10 @@ use Rattle.model.specs.Calls.{lookup}
 use Rattle.program.specs.Script.{State, Told, emptied, granted, shows, refusal, other_mark, cut, ended, record_at, record_size, told_by, set_space, bind_in, Step, step_on, step, lines, operations_in, run, response_told}
 use Rattle.program.proofs.Records.{record_fits, prefix, where_some, run_fuel}
 use Rattle.script.specs.declared.Progress.{Progress}
-use Rattle.script.specs.declared.Stepped.{Stepped}
-use Rattle.script.specs.Steps.{Steps}
-use Rattle.script.specs.Progress.{pending, held_by, to_come, is_short, waits, operation_count}
+use Rattle.program.specs.declared.Response.{Response}
+use Rattle.script.specs.declared.Program.{Program}
+use Rattle.script.specs.Program.{held, Does}
+use Rattle.script.specs.Progress.{pending, to_come, is_short, waits, stops, operation_count}
 use Rattle.script.proofs.Pending.{wrote}
 
 -- ── a record: its lines, and what the rest gives ──
@@ -68,19 +69,19 @@ module _ (st : State) (bs : List ℕ) where
   short_on (SetSpace s) h = go (set_space s st) h
     where
       go : (u : Reply ℕ) → is_short (told_by emptied u) ≡ true → Short (SetSpace s)
-      go (refused n q) k = never (sym k)
-      go (answered n) k = never (sym k)
+      go (refused n q) k = cc
+      go (answered n) k = cc
   short_on Bind h = go (bind_in st bs).answer h
     where
       go : (u : Reply Grant) → is_short (told_by granted u) ≡ true → Short Bind
-      go (refused n q) k = never (sym k)
-      go (answered n) k = never (sym k)
+      go (refused n q) k = cc
+      go (answered n) k = cc
   short_on (LookUp x) h = go (lookup st.space st.lent x) h
     where
       go : (u : Reply Seen) → is_short (told_by (shows x) u) ≡ true → Short (LookUp x)
-      go (refused n q) k = never (sym k)
-      go (answered n) k = never (sym k)
-  short_on OtherMark h = never (sym h)
+      go (refused n q) k = cc
+      go (answered n) k = cc
+  short_on OtherMark h = cc
   short_on Cut h = (inl refl, refl)
   short_on End h = (inr refl, refl)
 
@@ -103,16 +104,8 @@ module _ (st : State) (bs : List ℕ) where
 
 -- ── what an answered record leaves to come ──
 
-abbrev pub progress_of : Progress → Stepped → Progress
-progress_of p r = record {
-  space = r.space;
-  ranges = r.ranges;
-  count = r.count;
-  place = p.place + r.taken;
-  next = 0;
-  left = operation_count (response_told r.response);
-  stopped = eqb r.taken 0;
-}
+abbrev pub progress_of : Progress → Response → ℕ → Progress
+progress_of q r taken = record q { place = q.place + taken; next = 0; left = operation_count (response_told r); stopped = stops (response_told r) }
 
 -- what a step tells and leaves, having taken n bytes, and what the rest gives
 coming : ℕ → Step → ℕ → List ℕ → List ℕ
@@ -126,17 +119,38 @@ run_coming st p bs =
     run_step st p bs ∙ ap (λ (l : List ℕ). l ++ rest) (lines_split p st bs)
     ∙ append_assoc (lines p [] (step st bs).told) (pending (step st bs).state.operations 0 (operation_count (step st bs).told)) rest
 
-pub answered_on : (p : Progress) (rs ws os bs : List ℕ) (last : Bool) {r : Stepped} {rs' ws' os' : List ℕ} → p.left ≡ 0 → p.stopped ≡ false
-    → Steps (step (held_by p rs ws os) bs) (record_size (record_at bs)) r rs' ws' os' → waits last (response_told r.response) ≡ false
-    → (more : List ℕ) → (last ≡ true → more ≡ [])
-    → to_come p rs ws os (bs ++ more) ≡ lines p.place [] (response_told r.response) ++ to_come (progress_of p r) rs' ws' os' (drop r.taken bs ++ more)
-unfolding to_come pending coming
-answered_on p rs ws os bs last {r} {rs'} {ws'} {os'} none going did goes more ends =
-    let st : State = held_by p rs ws os in
-    let all : List ℕ = bs ++ more in
-    let k = same st bs more last ends (rw did.leaves goes) in
-    let n : record_size (record_at all) ≡ r.taken = ap record_size k.0 ∙ sym did.takes in
-    let rest : drop (record_size (record_at all)) all ≡ drop r.taken bs ++ more =
-    ap (λ (m : ℕ). drop m all) n ∙ drop-append-le r.taken bs more (omega (arith, did.takes, record_fits bs)) in
-    let d = k.1 ∙ did.leaves in
-    rw (none, going) (run_coming st p.place all ∙ λ i. coming p.place (d i) (n i) (rest i))
+-- it stops where a record takes nothing
+stops_size : (st : State) (bs : List ℕ) → eqb (record_size (record_at bs)) 0 ≡ stops (step st bs).told
+unfolding step
+stops_size st bs = go (record_at bs)
+  where
+    told : {A : Type 0} (f : A → Told) → ((a : A) → stops (f a) ≡ false) → (a : Reply A) → false ≡ stops (told_by f a)
+    told f h (refused n p) = refl
+    told f h (answered a) = sym (h a)
+
+    go : (e : ScriptRecord) → eqb (record_size e) 0 ≡ stops (step_on e st bs).told
+    go (SetSpace s) = told emptied (λ a. refl) (set_space s st)
+    go Bind = told granted (λ a. refl) (bind_in st bs).answer
+    go (LookUp x) = told (shows x) (λ a. refl) (lookup st.space st.lent x)
+    go OtherMark = refl
+    go Cut = refl
+    go End = refl
+
+module _ (b : Program) (bs : List ℕ) {r : Response} {q : Program} (did : Does (step (held b) bs) b r q) where
+  pub same_place : q.progress.place ≡ b.progress.place
+  same_place = ap (λ (p : Progress). p.place) did.stays
+
+  pub answered_on : (last : Bool) {taken : ℕ} → b.progress.left ≡ 0 → b.progress.stopped ≡ false → taken ≡ record_size (record_at bs)
+      → waits last (response_told r) ≡ false → (more : List ℕ) → (last ≡ true → more ≡ [])
+      → to_come b.progress b.ranges.now b.table.now b.operations.now (bs ++ more) ≡ lines b.progress.place [] (response_told r)
+      ++ to_come (progress_of q.progress r taken) q.ranges.now q.table.now q.operations.now (drop taken bs ++ more)
+  unfolding to_come pending coming
+  answered_on last {taken} none going takes goes more ends =
+      let all : List ℕ = bs ++ more in
+      let k = same (held b) bs more last ends (rw did.leaves goes) in
+      let n : record_size (record_at all) ≡ taken = ap record_size k.0 ∙ sym takes in
+      let rest : drop (record_size (record_at all)) all ≡ drop taken bs ++ more =
+      ap (λ (m : ℕ). drop m all) n ∙ drop-append-le taken bs more (omega (arith, takes, record_fits bs)) in
+      let d = k.1 ∙ did.leaves in
+      let s : eqb taken 0 ≡ stops (response_told r) = ap (λ (m : ℕ). eqb m 0) takes ∙ stops_size (held b) bs ∙ ap (λ (d : Step). stops d.told) did.leaves in
+      rw (none, going, same_place, ← s) (run_coming (held b) b.progress.place all ∙ λ i. coming b.progress.place (d i) (n i) (rest i))

@@ -101,21 +101,21 @@ module _ (st : State) (bs : List ℕ) (g : Grant) where
   wrote_on (SetSpace s) h = absurd (never (set_space s st) h)
     where
       never : (a : Reply ℕ) → told_by emptied a ≡ granted g → ⊥
-      never (refused n p) q = let z : ◌≡◌ {A = ℕ} 0 1 = cc in omega arith
-      never (answered n) q = let z : ◌≡◌ {A = ℕ} 0 1 = cc in omega arith
+      never (refused n p) q = cc
+      never (answered n) q = cc
   wrote_on Bind h = wrote_request (go (bind_in st bs).answer h)
     where
       go : (a : Reply Grant) → told_by granted a ≡ granted g → a ≡ answered g
-      go (refused n p) q = let z : ◌≡◌ {A = ℕ} 0 1 = cc in absurd (omega arith)
+      go (refused n p) q = cc
       go (answered k) q = cc
   wrote_on (LookUp x) h = absurd (never (lookup st.space st.lent x) h)
     where
       never : (a : Reply _) → told_by (shows x) a ≡ granted g → ⊥
-      never (refused n p) q = let z : ◌≡◌ {A = ℕ} 0 1 = cc in omega arith
-      never (answered n) q = let z : ◌≡◌ {A = ℕ} 0 1 = cc in omega arith
-  wrote_on OtherMark h = let z : ◌≡◌ {A = ℕ} 0 1 = cc in absurd (omega arith)
-  wrote_on Cut h = let z : ◌≡◌ {A = ℕ} 0 1 = cc in absurd (omega arith)
-  wrote_on End h = let z : ◌≡◌ {A = ℕ} 0 1 = cc in absurd (omega arith)
+      never (refused n p) q = cc
+      never (answered n) q = cc
+  wrote_on OtherMark h = cc
+  wrote_on Cut h = cc
+  wrote_on End h = cc
 
   pub wrote : (step st bs).told ≡ granted g → Wrote st bs (step st bs).state.operations g
   unfolding step

@@ -1,13 +1,14 @@
 -- What stands at the front of some bytes, by the tests that code makes.
 -- Assumes nothing.
-use mathlib.Core.Path.{◌≡◌, refl, ap, ◌∙◌}
+use mathlib.Core.Path.{◌≡◌, refl, sym, ap, ◌∙◌}
 use mathlib.Core.Logic.{◌⊎◌, inl, inr}
 use mathlib.Core.Bool.{Bool, true, false}
 use mathlib.Core.List.{List}
 use Prim.Native.Nat.{ℕ, ◌+◌, ◌≤◌, ◌<◌}
 use native.Mathlib.Omega.{arith}
-use lib.ListN.{length, drop}
-use borrow.Author.Tests.{eq-eqb, ne_eqb, le-leb, lt-leb}
+use lib.Dec.{eqb}
+use lib.ListN.{length, get_or, drop}
+use borrow.Author.Tests.{eq-eqb, eqb-true, ne_eqb, le-leb, lt-leb}
 use Rattle.model.specs.Rows.{choose}
 use Rattle.model.specs.Calls.{little_endian}
 use Rattle.program.specs.Script.{has_mark, whole, space_in, record_at}
@@ -15,67 +16,77 @@ use Rattle.model.proofs.Numbers.{order}
 use Rattle.program.specs.declared.ScriptRecord.{ScriptRecord}
 use Rattle.program.specs.declared.ScriptRecord.TheVariants.{SetSpace, Bind, LookUp, OtherMark, Cut, End}
 
-if_true : {A : Type 0} {b : Bool} (x y : A) → b ≡ true → choose b x y ≡ x
-if_true x y e = ap (λ (b : Bool). choose b x y) e
-
-if_false : {A : Type 0} {b : Bool} (x y : A) → b ≡ false → choose b x y ≡ y
-if_false x y e = ap (λ (b : Bool). choose b x y) e
-
 module _ (bs : List ℕ) where
-  pub at-end : length bs ≡ 0 → record_at bs ≡ End
+  pub at_end : length bs < 1 → End ≡ record_at bs
   unfolding record_at
-  at-end h = if_true _ _ (eq-eqb (length bs) 0 h)
+  at_end h = let e : length bs ≡ 0 = omega arith in rw e
 
-  pub one_left : length bs ≡ 1 → record_at bs ≡ Cut
+  pub one_left : 1 ≤ length bs → length bs < 2 → Cut ≡ record_at bs
   unfolding record_at
-  one_left h = rw h
+  one_left h k = let e : length bs ≡ 1 = omega arith in rw e
+
+  -- with two bytes, what the tests of the three marks say
+  marked : {s r l : Bool} → 2 ≤ length bs → has_mark 83 80 bs ≡ s → has_mark 82 81 bs ≡ r → has_mark 76 75 bs ≡ l
+      → record_at bs ≡ choose s (whole 32 bs (SetSpace (space_in bs))) (choose r (whole 40 bs Bind) (choose l (whole 8 bs (LookUp (little_endian 8 (drop 2 bs)))) OtherMark))
+  unfolding record_at
+  marked h s r l = rw (ne_eqb (length bs) 0 (λ e. omega arith), ne_eqb (length bs) 1 (λ e. omega arith), s, r, l)
+
+  is_mark : (a b : ℕ) → get_or bs 0 0 ≡ a → get_or bs 1 0 ≡ b → has_mark a b bs ≡ true
+  is_mark a b e f = rw (eq-eqb (get_or bs 0 0) a e, eq-eqb (get_or bs 1 0) b f)
+
+  no_mark : (a b : ℕ) → (get_or bs 0 0 ≡ a → get_or bs 1 0 ≡ b → ⊥) → has_mark a b bs ≡ false
+  no_mark a b h = go (eqb (get_or bs 0 0) a) (eqb (get_or bs 1 0) b) refl refl
+    where
+      go : (p q : Bool) → eqb (get_or bs 0 0) a ≡ p → eqb (get_or bs 1 0) b ≡ q → has_mark a b bs ≡ false
+      go true true d e = absurd (h (eqb-true _ _ d) (eqb-true _ _ e))
+      go true false d e = rw (d, e)
+      go false q d e = rw d
 
   -- a record that is there, or is cut, as its mark says
   there : (n : ℕ) (e : ScriptRecord) → 2 + n ≤ length bs → whole n bs e ≡ e
-  there n e h = if_true e Cut (le-leb (2 + n) (length bs) h)
+  there n e h = rw (le-leb (2 + n) (length bs) h)
 
   short : (n : ℕ) (e : ScriptRecord) → length bs < 2 + n → whole n bs e ≡ Cut
-  short n e h = if_false e Cut (lt-leb (2 + n) (length bs) h)
+  short n e h = rw (lt-leb (2 + n) (length bs) h)
 
-  module _ (some : length bs ≡ 0 → ⊥) (more : length bs ≡ 1 → ⊥) where
-    by_space : has_mark 83 80 bs ≡ true → record_at bs ≡ whole 32 bs (SetSpace (space_in bs))
-    unfolding record_at
-    by_space h = if_false _ _ (ne_eqb (length bs) 0 some) ∙ if_false _ _ (ne_eqb (length bs) 1 more) ∙ if_true _ _ h
+  module _ (two : 2 ≤ length bs) where
+    space_mark : get_or bs 0 0 ≡ 83 → get_or bs 1 0 ≡ 80 → record_at bs ≡ whole 32 bs (SetSpace (space_in bs))
+    space_mark a b = marked two (is_mark 83 80 a b) refl refl
 
-    pub space_there : has_mark 83 80 bs ≡ true → 34 ≤ length bs → record_at bs ≡ SetSpace (space_in bs)
-    space_there h k = by_space h ∙ there 32 (SetSpace (space_in bs)) k
+    pub space_there : get_or bs 0 0 ≡ 83 → get_or bs 1 0 ≡ 80 → 34 ≤ length bs → SetSpace (space_in bs) ≡ record_at bs
+    space_there a b h = sym (space_mark a b ∙ there 32 (SetSpace (space_in bs)) h)
 
-    pub space_short : has_mark 83 80 bs ≡ true → length bs < 34 → record_at bs ≡ Cut
-    space_short h k = by_space h ∙ short 32 (SetSpace (space_in bs)) k
+    pub space_short : get_or bs 0 0 ≡ 83 → get_or bs 1 0 ≡ 80 → length bs < 34 → Cut ≡ record_at bs
+    space_short a b h = sym (space_mark a b ∙ short 32 (SetSpace (space_in bs)) h)
 
-    module _ (no-space : has_mark 83 80 bs ≡ false) where
-      by_request : has_mark 82 81 bs ≡ true → record_at bs ≡ whole 40 bs Bind
-      unfolding record_at
-      by_request h = if_false _ _ (ne_eqb (length bs) 0 some) ∙ if_false _ _ (ne_eqb (length bs) 1 more) ∙ if_false _ _ no-space ∙ if_true _ _ h
+    request_mark : get_or bs 0 0 ≡ 82 → get_or bs 1 0 ≡ 81 → record_at bs ≡ whole 40 bs Bind
+    request_mark a b = marked two (no_mark 83 80 (λ e f. omega arith)) (is_mark 82 81 a b) refl
 
-      pub request_there : has_mark 82 81 bs ≡ true → 42 ≤ length bs → record_at bs ≡ Bind
-      request_there h k = by_request h ∙ there 40 Bind k
+    pub request_there : get_or bs 0 0 ≡ 82 → get_or bs 1 0 ≡ 81 → 42 ≤ length bs → Bind ≡ record_at bs
+    request_there a b h = sym (request_mark a b ∙ there 40 Bind h)
 
-      pub request_short : has_mark 82 81 bs ≡ true → length bs < 42 → record_at bs ≡ Cut
-      request_short h k = by_request h ∙ short 40 Bind k
+    pub request_short : get_or bs 0 0 ≡ 82 → get_or bs 1 0 ≡ 81 → length bs < 42 → Cut ≡ record_at bs
+    request_short a b h = sym (request_mark a b ∙ short 40 Bind h)
 
-      module _ (no-request : has_mark 82 81 bs ≡ false) where
-        address : ScriptRecord
-        address = LookUp (little_endian 8 (drop 2 bs))
+    address : ScriptRecord
+    address = LookUp (little_endian 8 (drop 2 bs))
 
-        by_last : record_at bs ≡ choose (has_mark 76 75 bs) (whole 8 bs address) OtherMark
-        unfolding record_at address
-        by_last = if_false _ _ (ne_eqb (length bs) 0 some) ∙ if_false _ _ (ne_eqb (length bs) 1 more) ∙ if_false _ _ no-space ∙ if_false _ _ no-request
+    address_mark : get_or bs 0 0 ≡ 76 → get_or bs 1 0 ≡ 75 → record_at bs ≡ whole 8 bs address
+    unfolding address
+    address_mark a b = marked two (no_mark 83 80 (λ e f. omega arith)) (no_mark 82 81 (λ e f. omega arith)) (is_mark 76 75 a b)
 
-        pub address_there : has_mark 76 75 bs ≡ true → 10 ≤ length bs → record_at bs ≡ LookUp (little_endian 8 (drop 2 bs))
-        unfolding address
-        address_there h k = by_last ∙ if_true _ _ h ∙ there 8 address k
+    pub address_there : get_or bs 0 0 ≡ 76 → get_or bs 1 0 ≡ 75 → 10 ≤ length bs → LookUp (little_endian 8 (drop 2 bs)) ≡ record_at bs
+    unfolding address
+    address_there a b h = sym (address_mark a b ∙ there 8 address h)
 
-        pub address_short : has_mark 76 75 bs ≡ true → length bs < 10 → record_at bs ≡ Cut
-        address_short h k = by_last ∙ if_true _ _ h ∙ short 8 address k
+    pub address_short : get_or bs 0 0 ≡ 76 → get_or bs 1 0 ≡ 75 → length bs < 10 → Cut ≡ record_at bs
+    address_short a b h = sym (address_mark a b ∙ short 8 address h)
 
-        pub other-mark : has_mark 76 75 bs ≡ false → record_at bs ≡ OtherMark
-        other-mark h = by_last ∙ if_false _ _ h
+    pub other_mark : (get_or bs 0 0 ≡ 83 → get_or bs 1 0 ≡ 80 → ⊥) → (get_or bs 0 0 ≡ 82 → get_or bs 1 0 ≡ 81 → ⊥)
+        → (get_or bs 0 0 ≡ 76 → get_or bs 1 0 ≡ 75 → ⊥) → OtherMark ≡ record_at bs
+    other_mark a b c = sym (marked two (no_mark 83 80 a) (no_mark 82 81 b) (no_mark 76 75 c))
+
+pub ruleset reading = (at_end, one_left, space_there, space_short, request_there, request_short, address_there, address_short, other_mark)
 
 -- ── a record that is cut, and none, have few bytes ──
 
@@ -90,17 +101,11 @@ shorts End = 1
 long : (bs : List ℕ) → 42 ≤ length bs → shorts (record_at bs) ≡ 0
 long bs h = go (has_mark 83 80 bs) (has_mark 82 81 bs) (has_mark 76 75 bs) refl refl refl
   where
-    some : length bs ≡ 0 → ⊥
-    some e = omega arith
-
-    more : length bs ≡ 1 → ⊥
-    more e = omega arith
-
-    go : (a b c : Bool) → has_mark 83 80 bs ≡ a → has_mark 82 81 bs ≡ b → has_mark 76 75 bs ≡ c → shorts (record_at bs) ≡ 0
-    go true b c p q r = ap shorts (space_there bs some more p (omega arith))
-    go false true c p q r = ap shorts (request_there bs some more p q (omega arith))
-    go false false true p q r = ap shorts (address_there bs some more p q r (omega arith))
-    go false false false p q r = ap shorts (other-mark bs some more p q r)
+    go : (s r l : Bool) → has_mark 83 80 bs ≡ s → has_mark 82 81 bs ≡ r → has_mark 76 75 bs ≡ l → shorts (record_at bs) ≡ 0
+    go true r l d e f = rw (marked bs (omega arith) d e f, there bs 32 (SetSpace (space_in bs)) (omega arith))
+    go false true l d e f = rw (marked bs (omega arith) d e f, there bs 40 Bind (omega arith))
+    go false false true d e f = rw (marked bs (omega arith) d e f, there bs 8 (LookUp (little_endian 8 (drop 2 bs))) (omega arith))
+    go false false false d e f = rw (marked bs (omega arith) d e f)
 
 pub short_length : (bs : List ℕ) → (record_at bs ≡ Cut) ⊎ (record_at bs ≡ End) → length bs < 42
 short_length bs h = go (order 42 (length bs)) h

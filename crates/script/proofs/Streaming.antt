@@ -9,7 +9,6 @@ use Rattle.program.specs.Script.{start, leaves, output}
 use Rattle.program.proofs.Leaves.{leaves-nil}
 use Rattle.script.specs.declared.Progress.{Progress}
 use Rattle.script.specs.Progress.{pending, held_by, to_come}
-use Rattle.script.proofs.Coming.{never}
 use Rattle.script.specs.Streaming.{Stream, begun, came, ended, printed, Prints}
 
 so_far : {bs : List ℕ} {last : Bool} {unread text : List ℕ} {p : Progress} {rs ws os : List ℕ} → Stream bs last unread text p rs ws os
@@ -17,7 +16,7 @@ so_far : {bs : List ℕ} {last : Bool} {unread text : List ℕ} {p : Progress} {
 unfolding to_come pending output
 so_far begun more ends = refl
 so_far (came {bs = bs} {unread = unread} s now) more ends =
-    rw (append_assoc unread now more, append_assoc bs now more) (so_far s (now ++ more) (λ e. never (sym e)))
+    rw (append_assoc unread now more, append_assoc bs now more) (so_far s (now ++ more) (λ e. cc))
 so_far (ended s) more ends = so_far s more (λ e. ends refl)
 so_far (printed {text = text} s g) more ends = append_assoc text g.text _ ∙ ap (◌++◌ text) (sym (g.goes_on more ends)) ∙ so_far s more ends
 

@@ -1,3 +1,4 @@
 pub mod Steps
 pub mod Progress
+pub mod Program
 pub mod Streaming

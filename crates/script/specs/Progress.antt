@@ -48,8 +48,8 @@ to_come p rs ws os bs = pending os p.next p.left ++ choose p.stopped [] (run (le
 abbrev pub start_progress : Progress
 start_progress = record { space = start.space; ranges = 0; count = 0; place = 0; next = 0; left = 0; stopped = false }
 
--- the bytes end before the record does; then the program waits, if more can come. How many operations an answer hands
--- over
+-- the bytes end before the record does; then the program waits, if more can come. The program stops there. How many
+-- operations an answer hands over
 abbrev pub is_short : Told → Bool
 is_short (emptied n) = false
 is_short (granted g) = false
@@ -62,6 +62,15 @@ is_short ended = true
 abbrev pub waits : Bool → Told → Bool
 waits true t = false
 waits false t = is_short t
+
+abbrev pub stops : Told → Bool
+stops (emptied n) = false
+stops (granted g) = false
+stops (shows x v) = false
+stops (refusal n p) = false
+stops other_mark = true
+stops cut = true
+stops ended = true
 
 abbrev pub operation_count : Told → ℕ
 operation_count (emptied n) = 0

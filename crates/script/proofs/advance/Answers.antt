@@ -1,53 +1,32 @@
 use native.Mathlib.Omega.{arith}
-use Rattle.script.proofs.Advancing.{far_start, far_ready, far_next, far_idle, far_full}
+use Rattle.script.proofs.Advancing.{comes_back, over_as, far_start, far_ready, far_next, far_idle, far_full}
+use borrow.Author.Rules.{rules}
 use Rattle.script.proofs.advance.Goals as goal
+use Rattle.script.proofs.advance.Goals.{else-loop-lines-test, then-loop-lines-test+then-lines-end}
 
-pub loop-end-init : goal.loop-end-init
-loop-end-init c =
-    far_start _ _ _ _ _ _ _ c.requires.held
+pub loop-lines-init : goal.loop-lines-init
+loop-lines-init c = far_start _ _ (omega (arith, c.new-lines.ensures.end)) c.requires.held
 
-pub overflow_add-end : goal.overflow_add-end
-overflow_add-end c =
-    let l = c.loop-end.invariant in
-    omega (arith, l.room, l.outputs)
+pub overflow_add-lines : goal.overflow_add-lines
+overflow_add-lines c = omega (arith, c.loop-lines.invariant.room, c.loop-lines.invariant.outputs)
 
-pub slice_bounds-rest-count : goal.slice_bounds-rest-count
-slice_bounds-rest-count c =
-    let l = c.loop-end.invariant in
-    omega (arith, l.goes.within)
+pub slice_bounds-turn-count : goal.slice_bounds-turn-count
+slice_bounds-turn-count c = omega (arith, c.loop-lines.invariant.goes.within)
 
-pub slice_bounds-rest-start : goal.slice_bounds-rest-start
-slice_bounds-rest-start c =
-    let l = c.loop-end.invariant in
-    omega (arith, l.goes.within)
+pub slice_bounds-turn-start : goal.slice_bounds-turn-start
+slice_bounds-turn-start c = omega (arith, c.loop-lines.invariant.goes.within)
 
-pub slice_bounds-rest-end : goal.slice_bounds-rest-end
-slice_bounds-rest-end c =
-    let l = c.loop-end.invariant in
-    omega (arith, l.goes.within)
+pub turn-taken-requires : goal.turn-taken-requires
+turn-taken-requires c = (far_ready c.loop-lines.invariant c.requires.places, omega arith)
 
-pub turn-t-requires : goal.turn-t-requires
-turn-t-requires c =
-    (far_ready c.loop-end.invariant c.requires.places, omega (arith, c.loop-end.invariant.outputs))
+pub loop-lines-preserved : goal.loop-lines-preserved
+loop-lines-preserved c = far_next c.loop-lines.invariant c.turn-taken.ensures (omega (arith, c.new-lines.ensures.end)) c.loop-lines-test.true
 
-pub overflow_add-from : goal.overflow_add-from
-overflow_add-from c =
-    let l = c.loop-end.invariant in
-    omega (arith, l.goes.within, c.turn-t.ensures.goes.within)
-
-pub loop-end-smaller : goal.loop-end-smaller
-loop-end-smaller c =
-    omega (arith, c.turn-t.ensures.most)
-
-pub loop-end-preserved : goal.loop-end-preserved
-loop-end-preserved c =
-    let k = c.turn-t.auto in
-    far_next c.loop-end.invariant c.turn-t.ensures k.ranges k.table k.operations k.out c.loop-end-test.true
-
-pub returns-after-loop-end : goal.returns-after-loop-end
-returns-after-loop-end c =
-    far_full c.loop-end.invariant c.loop-end-test.false
-
-pub returns-then-t-end : goal.returns-then-t-end
-returns-then-t-end c =
-    far_idle c.loop-end.invariant c.turn-t.ensures c.if-t-end.true
+pub returns : goal.returns
+returns c =
+    let z = c.new-lines.ensures.end in
+    comes_back {k = c.new-lines.result} {taken = c.loop-lines-test.taken} {a = c.loop-lines-test.program} {l = c.loop-lines-test.lines} c.new-lines.ensures.bytes (elim c.loop-lines-test.branch [
+      | else-loop-lines-test w ↦ over_as w.program-is w.lines-is w.taken-is (far_full c.loop-lines.invariant z w.loop-lines-test.false)
+      | then-loop-lines-test+then-lines-end w ↦ over_as w.program-is w.lines-is w.taken-is
+          (far_idle c.loop-lines.invariant w.turn-taken.ensures z w.loop-lines-test.true w.if-lines-end.true)
+    ]) (search rules) (search rules) (search rules) (search rules)

@@ -3,10 +3,8 @@ use lib.ListN.{length}
 use Rattle.script.proofs.Advancing.{Far}
 use Rattle.script.proofs.advance.Given as goal
 
-abbrev pub invariant-loop-end : goal.invariant-loop-end
-invariant-loop-end l =
-    Far l.initial.progress l.initial.ranges l.initial.table l.initial.operations l.bytes l.last l.initial.out (record { progress = l.progress; taken = l.from; end = l.end }) l.ranges l.table l.operations l.out
+abbrev pub invariant-loop-lines : goal.invariant-loop-lines
+invariant-loop-lines l = Far l.initial.program l.bytes l.last l.initial.lines l.taken l.program l.lines
 
-abbrev pub decreases-loop-end : goal.decreases-loop-end
-decreases-loop-end l =
-    length l.out - l.end
+abbrev pub decreases-loop-lines : goal.decreases-loop-lines
+decreases-loop-lines l = length l.lines.out.now - l.lines.end

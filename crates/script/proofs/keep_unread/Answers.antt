@@ -1,26 +1,17 @@
 use mathlib.Core.Path.{◌≡◌, refl, sym, ◌∙◌}
-use Prim.Native.Nat.{◌+◌, ◌-◌}
+use mathlib.Core.List.{List, append_assoc}
+use Prim.Native.Nat.{ℕ, ◌-◌}
 use native.Mathlib.Omega.{arith}
-use lib.ListN.{length-set}
-use Rattle.words.proofs.Moved.{moved_none, moved_word, moved_down}
-use borrow.Author.Rules.{rules}
+use lib.ListN.{length, take, drop}
+use Rattle.words.proofs.Stored.{stored_is}
+use Rattle.words.proofs.Moved.{length_part, moved_is}
 use Rattle.script.proofs.keep_unread.Goals as goal
-
-pub loop-j-init : goal.loop-j-init
-loop-j-init c = (search rules, search rules, sym (moved_none c.args.input.now c.args.from 0))
-
-pub loop-j-preserved : goal.loop-j-preserved
-loop-j-preserved c =
-    let a = c.args in
-    let l = c.loop-j in
-    let e : 0 + l.j ≡ l.j = omega arith in (
-      search rules,
-      simp length-set l.invariant.1,
-      moved_word l.input (a.from + l.j) l.j (omega arith) (omega arith) ∙ rw l.invariant.2 (rw e at (moved_down a.input.now a.from 0 l.j 1 (omega arith) (omega arith))),
-    )
 
 pub returns : goal.returns
 returns c =
-    let a = c.args in
-    let e : c.loop-j.j ≡ a.to - a.from = omega arith in
-    (refl, c.loop-j.invariant.2 ∙ rw e)
+    let ws : List ℕ = c.args.input.now in
+    let from = c.args.from in
+    let n : ℕ = c.args.to - from in
+    let run : List ℕ = take n (drop from ws) in
+    let l : length run ≡ n = length_part ws from n (omega arith) in
+    (refl, c.copy_within.ensures.after ∙ append_assoc (take 0 ws) run _ ∙ sym (rw l at (stored_is ws 0 run)) ∙ sym (moved_is ws from 0 n))
