@@ -22,23 +22,24 @@ use Rattle.batches.proofs.Relent.{relent_same}
 use Rattle.batches.specs.Batch.{requests_in, batch_row, work_row, batch_rows, turns_rows, batch_outcome, turns, bind_batch}
 use Rattle.request.specs.Bound.{Checked}
 use Rattle.request.proofs.Checked.{checked_of}
+use Rattle.change.specs.declared.Made.{Made}
 use Rattle.change.specs.Change.{Changed}
 use Rattle.batch.specs.Turns.{turned, committing, committed}
 use Rattle.batch.proofs.Turned.{made_all, Whole, Is, turned_is}
 
 -- with the count of sparse ranges
-abbrev with_ranges : ℕ → Reply (ℕ × ℕ) → Reply Grant
+abbrev with_ranges : ℕ → Reply Made → Reply Grant
 with_ranges k (refused n p) = refused n p
-with_ranges k (answered g) = answered (record { operations = g.0; count = g.1; ranges = k })
+with_ranges k (answered g) = answered (record { operations = g.operations; count = g.count; ranges = k })
 
-ranges-decide : (k : ℕ) (ws : List Row) (g : ℕ × ℕ) → with_ranges k (decide ws g) ≡ decide ws (record { operations = g.0; count = g.1; ranges = k })
+ranges-decide : (k : ℕ) (ws : List Row) (g : Made) → with_ranges k (decide ws g) ≡ decide ws (record { operations = g.operations; count = g.count; ranges = k })
 unfolding decide
 ranges-decide k [] g = refl
 ranges-decide k (w ∷ ws) g = go (all w.tests) (ranges-decide k ws g)
   where
-    go : (b : Bool) → with_ranges k (decide ws g) ≡ decide ws (record { operations = g.0; count = g.1; ranges = k })
+    go : (b : Bool) → with_ranges k (decide ws g) ≡ decide ws (record { operations = g.operations; count = g.count; ranges = k })
         → with_ranges k (choose b (decide ws g) (refused w.number w.place))
-        ≡ choose b (decide ws (record { operations = g.0; count = g.1; ranges = k })) (refused w.number w.place)
+        ≡ choose b (decide ws (record { operations = g.operations; count = g.count; ranges = k })) (refused w.number w.place)
     go true ih = ih
     go false ih = refl
 
@@ -54,10 +55,10 @@ module _ (s : Space) (l : Lent) (ws os bs : List ℕ) where
   refused_by e = ap (λ (u : Reply (Unit {0})). batch_outcome u (turns s l (length os) (requests_in bs)) (requests_in bs) l ws os) (sym e)
 
   -- row 12
-  pub not_records : {n : ℕ} → false ≡ all (batch_row bs).tests → n ≡ 12
-      → bind_batch s l ws os bs ≡ record { answer = refused n 0; table = l.table.words; work = ws; operations = os }
+  pub not_records : false ≡ all (batch_row bs).tests
+      → bind_batch s l ws os bs ≡ record { answer = refused 12 0; table = l.table.words; work = ws; operations = os }
   unfolding batch_rows decide
-  not_records e d = refused_by (ap (λ (n : ℕ). refused n 0) d ∙ ap (λ (b : Bool). choose b (verdict (lent_rows s between l)) (refused 12 0)) e)
+  not_records e = refused_by (ap (λ (b : Bool). choose b (verdict (lent_rows s between l)) (refused 12 0)) e)
 
   -- and those behind it
   module _ (records : true ≡ all (batch_row bs).tests) where
@@ -107,7 +108,7 @@ module _ (s : Space) (l : Lent) (ws os bs : List ℕ) where
           w : Is s 0 rs l.table os
           w = turned_is s 0 rs l.table os whole
 
-          go : (a : Reply (ℕ × ℕ)) → o.reply ≡ a → batch_outcome (answered tt) (with_ranges k a) rs l ws os ≡ committing k a o l.table.words ws os
+          go : (a : Reply Made) → o.reply ≡ a → batch_outcome (answered tt) (with_ranges k a) rs l ws os ≡ committing k a o l.table.words ws os
           go (refused n p) e = refl
           go (answered g) e =
               let x = w.leaves g e in

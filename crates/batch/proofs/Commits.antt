@@ -12,6 +12,7 @@ use Rattle.model.specs.Rows.{Reply, refused, answered}
 use Rattle.table.specs.Places.{lent}
 use Rattle.words.specs.Words.{stored, ZeroFrom}
 use Rattle.words.proofs.Stored.{stored_is, length-stored, take-stored-end, cleared_is, cleared-stored}
+use Rattle.change.specs.declared.Made.{Made}
 use Rattle.change.specs.Change.{Changed}
 use Rattle.request.specs.Bound.{Checked}
 use Rattle.batch.specs.Turns.{turned, committing, committed}
@@ -42,7 +43,7 @@ put_back us vs ws n h z l f e =
 
 -- the table held ws, with zeros behind its mappings, vs was lent to work in and os for operations; the mappings' words
 -- stand in vs', and the requests left ws' and os'
-module _ (k : ℕ) (s : Space) (rs : List Request) (ws vs os : List ℕ) (count : ℕ) {vs' ws' os' : List ℕ} {x : Reply (ℕ × ℕ)}
+module _ (k : ℕ) (s : Space) (rs : List Request) (ws vs os : List ℕ) (count : ℕ) {vs' ws' os' : List ℕ} {x : Reply Made}
     (checked : Checked s (lent ws count)) (copy : vs' ≡ stored vs 0 (take (4 * count) ws)) (long : length vs ≡ length ws)
     (went : turned s 0 rs (lent ws count) os ≡ record { reply = x; table = ws'; operations = os' }) where
   held : 4 * count ≤ length ws
@@ -54,10 +55,10 @@ module _ (k : ℕ) (s : Space) (rs : List Request) (ws vs os : List ℕ) (count 
   work_zeros : {us : List ℕ} → us ≡ stored vs' 0 (replicate (length vs' - 0) 0) → us ≡ replicate (length vs) 0
   work_zeros e = zeroed _ vs' (length vs) e kept
 
-  by : {y : Reply (ℕ × ℕ)} → x ≡ y → committed k (turned s 0 rs (lent ws count) os) ws vs os
+  by : {y : Reply Made} → x ≡ y → committed k (turned s 0 rs (lent ws count) os) ws vs os
       ≡ committing k y (record { reply = y; table = ws'; operations = os' }) ws vs os
   unfolding committed
-  by e = ap (λ (o : Changed). committing k o.reply o ws vs os) (went ∙ ap (λ (x : Reply (ℕ × ℕ)). record { reply = x; table = ws'; operations = os' }) e)
+  by e = ap (λ (o : Changed). committing k o.reply o ws vs os) (went ∙ ap (λ (x : Reply Made). record { reply = x; table = ws'; operations = os' }) e)
 
   pub none : {n p : ℕ} {back put cleared emptied : List ℕ} → x ≡ refused n p → length ws' ≡ length ws
       → back ≡ stored ws' 0 (take (4 * count) vs') → put ≡ stored back (4 * count) (replicate (length back - 4 * count) 0)
@@ -80,7 +81,7 @@ module _ (k : ℕ) (s : Space) (rs : List Request) (ws vs os : List ℕ) (count 
       again : take (4 * count) back ≡ take (4 * count) ws
       again = front back ws' vs' (4 * count) b there ∙ front vs' vs ws (4 * count) copy held
 
-  pub every : {made after : ℕ} {cleared : List ℕ} → x ≡ answered (made, after) → cleared ≡ stored vs' 0 (replicate (length vs' - 0) 0)
+  pub every : {made after : ℕ} {cleared : List ℕ} → x ≡ answered (record { operations = made; count = after }) → cleared ≡ stored vs' 0 (replicate (length vs' - 0) 0)
       → committed k (turned s 0 rs (lent ws count) os) ws vs os
       ≡ record { answer = answered (record { operations = made; count = after; ranges = k }); table = ws'; work = cleared; operations = os' }
   every {made} {after} {cleared} e c =

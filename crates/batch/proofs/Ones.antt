@@ -1,22 +1,19 @@
 -- One request in its turn, by what its rows say; and what a grant keeps.
 -- Assumes nothing.
 use mathlib.Core.Path.{◌≡◌, refl, sym, ap, subst, ◌∙◌}
-use mathlib.Core.Logic.{inl, inr}
 use mathlib.Core.List.{List, ◌++◌}
 use Prim.Native.Nat.{ℕ, ◌*◌, ◌≤◌}
 use native.Mathlib.Omega.{arith}
-use lib.Dec.{eqb, eqb→eq}
 use lib.ListN.{length}
-use Rattle.model.specs.declared.Grant.{Grant}
 use Rattle.model.specs.declared.Request.{Request}
 use Rattle.model.specs.declared.Space.{Space}
 use Rattle.model.specs.Rows.{Row, Reply, refused, answered, decide, verdict}
 use Rattle.model.specs.Rules.{form_rows, request_rows}
 use Rattle.model.specs.Table.{Table, capacity, mappings, bad_place}
 use Rattle.model.specs.Cut.{after}
-use Rattle.model.specs.Calls.{Lent, Outcome}
+use Rattle.model.specs.Calls.{numbered, refusal_reply}
 use Rattle.model.specs.Demand3.{Holds}
-use Rattle.model.proofs.Tests.{tests, or_cases}
+use Rattle.model.proofs.Tests.{tests}
 use Rattle.model.proofs.Rows.{passed_split, answered_passed, and_then, decide-append}
 use Rattle.model.proofs.Groups.{form_passed, request_passed}
 use Rattle.model.proofs.Chain.{Chain}
@@ -25,28 +22,22 @@ use Rattle.model.proofs.Store.{rewritten, holds_rewritten, holds_mappings, zeros
 use Rattle.model.proofs.Ask.{asked_by as may-ask}
 use Rattle.model.proofs.Granted.{after_chain}
 use Rattle.batches.specs.Batch.{turn_rows}
+use Rattle.batches.specs.Place.{place_in}
+use Rattle.batches.proofs.Refusals.{refusal_of}
+use Rattle.model.specs.declared.Refusal.{Refusal}
+use Rattle.model.specs.declared.Refusal.TheVariants.{BadMapping}
 use Rattle.table.specs.Places.{lent}
 use Rattle.table.proofs.Places.{valid_chain}
+use Rattle.change.specs.declared.Made.{Made}
 use Rattle.change.specs.Change.{Changed, changed_for, made, room_rows}
 use Rattle.request.specs.Bound.{Checked, bound_known}
-use Rattle.request.proofs.Lasts.{with_list, beside_list, list_beside}
-use Rattle.batch.specs.Turns.{one, made_of}
+use Rattle.batch.specs.Turns.{one}
 
 -- ── by what the record says ──
-
--- past 14 a request has no flags
-pub no_flags : (r : Request) → answered tt ≡ verdict (form_rows 0 r) → r.flags ≡ 0
-no_flags r e =
-    let k = form_passed 0 r (answered_passed (form_rows 0 r) tt tt (sym e)).0 in
-    elim (or_cases (eqb r.flags 0) (eqb r.flags 0) k.flags.0) [ inl e ↦ eqb→eq _ 0 e | inr e ↦ eqb→eq _ 0 e ]
 
 module _ (s : Space) (t : Table) (os : List ℕ) where
   abbrev by : Request → List Row → Changed
   by r ws = changed_for (decide ws (made r t)) r t os
-
-  -- 6 to 11 and 16
-  abbrev asked : Request → Changed
-  asked r = by r (request_rows s r ++ room_rows r t (length os))
 
   -- a reply's refusal, or what comes after its answer
   abbrev then : {A : Type 0} → Reply A → (A → Changed) → Changed
@@ -61,30 +52,28 @@ module _ (s : Space) (t : Table) (os : List ℕ) where
       go (answered v) = refl
 
   -- u is what the rows of its form say
-  pub form_by : (r : Request) {u : Reply (Unit {0})} → u ≡ verdict (form_rows 0 r) → one s t os r ≡ then u (λ _. asked r)
-  unfolding one
-  form_by r e = changed_then r (form_rows 0 r) _ ∙ ap (λ u. then u (λ _. asked r)) (sym e)
+  pub form_by : (r : Request) {u : Reply (Unit {0})} → u ≡ verdict (form_rows 0 r) → one s t os r ≡ then u (λ _. bound_known s t os r)
+  unfolding one bound_known
+  form_by r e = changed_then r (form_rows 0 r) _ ∙ ap (λ u. then u (λ _. by r (request_rows s r ++ room_rows r t (length os)))) (sym e)
 
--- what `bind` leaves of a request on a table that is known to pass, without the list
-pub known_by : (s : Space) (l : Lent) (os : List ℕ) (r : Request) {a : Reply Grant} {ws rs vs : List ℕ}
-    → bound_known s l os r ≡ record { answer = a; table = ws; ranges = rs; operations = vs }
-    → changed_for (decide (request_rows s r ++ room_rows r l.table (length os)) (made r l.table)) r l.table os
-    ≡ record { reply = made_of a; table = ws; operations = vs }
-unfolding bound_known
-known_by s l os r e = sym (same c) ∙ ap strip (sym (list_beside r l os (request_rows s r ++ room_rows r l.table (length os))) ∙ e)
-  where
-    c : Changed
-    c = changed_for (decide (request_rows s r ++ room_rows r l.table (length os)) (made r l.table)) r l.table os
+-- ── the place of its refusal ──
 
-    strip : Outcome → Changed
-    strip o = record { reply = made_of o.answer; table = o.table; operations = o.operations }
+reply_is : (s : Space) (t : Table) (os : List ℕ) (d : Reply Made) (r : Request) → (changed_for d r t os).reply ≡ d
+reply_is s t os (refused n p) r = refl
+reply_is s t os (answered g) r = refl
 
-    same : (c : Changed) → strip (beside_list l c) ≡ c
-    same c = λ i. record { reply = replies c.reply i; table = c.table; operations = c.operations }
-      where
-        replies : (u : Reply (ℕ × ℕ)) → made_of (with_list u l.ranges.count) ≡ u
-        replies (refused n p) = refl
-        replies (answered g) = refl
+not_own : (w : Refusal) (p : ℕ) → ((numbered w).0 ≡ 5 → ⊥) → place_in w p ≡ p
+not_own (BadMapping q) p h = absurd (h refl)
+not_own _ p h = refl
+
+-- no row of a request in its turn is 5
+pub turn_place : (s : Space) (t : Table) (os : List ℕ) (r : Request) (w : Refusal) (p : ℕ) {us vs : List ℕ}
+    → one s t os r ≡ record { reply = refusal_reply w; table = us; operations = vs } → place_in w p ≡ p
+unfolding one form_rows request_rows
+turn_place s t os r w p e =
+    not_own w p (refusal_of (λ n q. n ≡ 5 → ⊥) (turn_rows s (capacity t) (length os) r (mappings t)) (made r t) _ _
+    (λ e. cc, (λ e. cc, (λ e. cc, (λ e. cc, (λ e. cc, (λ e. cc, (λ e. cc, (λ e. cc, (λ e. cc, tt)))))))))
+    (sym (reply_is s t os _ r) ∙ ap (λ (o : Changed). o.reply) e))
 
 -- ── what a grant keeps ──
 
@@ -111,26 +100,22 @@ module _ (s : Space) (t : Table) (os : List ℕ) where
       held : Holds t (after r (mappings t)) (rewritten t (after r (mappings t)))
       held = holds_rewritten t (after r (mappings t)) room
 
-  reply_is : (d : Reply (ℕ × ℕ)) (r : Request) → (changed_for d r t os).reply ≡ d
-  reply_is (refused n p) r = refl
-  reply_is (answered g) r = refl
+  pub record Kept (r : Request) (g : Made) : Type 0 where
+    pub checked : Checked s (lent (one s t os r).table g.count)
+    pub fits : 14 * g.operations ≤ length os
 
-  pub record Kept (r : Request) (g : ℕ × ℕ) : Type 0 where
-    pub checked : Checked s (lent (one s t os r).table g.1)
-    pub fits : 14 * g.0 ≤ length os
-
-  pub kept : (r : Request) (g : ℕ × ℕ) → Checked s t → (one s t os r).reply ≡ answered g → Kept r g
+  pub kept : (r : Request) (g : Made) → Checked s t → (one s t os r).reply ≡ answered g → Kept r g
   unfolding one
   kept r g c e =
-      let d = sym (reply_is _ r) ∙ e in
+      let d = sym (reply_is s t os _ r) ∙ e in
       let p = answered_passed (turn_rows s (capacity t) (length os) r (mappings t)) (made r t) g d in
       let form = passed_split (form_rows 0 r) _ p.0 in
       let ask = passed_split (request_rows s r) _ form.1 in
       let room : length (after r (mappings t)) ≤ capacity t = omega (tests, ask.1.0) in
       let after-all = after_chain s r (mappings t) (may-ask (λ e. e) (form_passed 0 r form.0) (request_passed s r ask.0)) (chain c) in
-      let out = ap (λ (d : Reply (ℕ × ℕ)). changed_for d r t os) (d ∙ ap answered p.1) in
+      let out = ap (λ (d : Reply Made). changed_for d r t os) (d ∙ ap answered p.1) in
       record {
-        checked = subst (λ (o : Changed). Checked s (lent o.table g.1)) (sym out)
-            (subst (λ (g : ℕ × ℕ). Checked s (lent (rewritten t (after r (mappings t))).words g.1)) (sym p.1) (rewritten_checked r c after-all room));
-        fits = subst (λ (g : ℕ × ℕ). 14 * g.0 ≤ length os) (sym p.1) (omega (tests, ask.1.1.0));
+        checked = subst (λ (o : Changed). Checked s (lent o.table g.count)) (sym out)
+            (subst (λ (g : Made). Checked s (lent (rewritten t (after r (mappings t))).words g.count)) (sym p.1) (rewritten_checked r c after-all room));
+        fits = subst (λ (g : Made). 14 * g.operations ≤ length os) (sym p.1) (omega (tests, ask.1.1.0));
       }

@@ -22,6 +22,7 @@ use Rattle.model.proofs.Store.{rewritten, holds_rewritten, holds_mappings, holds
 use Rattle.model.proofs.Operations.{flat_map-append, operations-words}
 use Rattle.batches.specs.Batch.{turn_rows, turns_rows, after_all, operations_all}
 use Rattle.table.specs.Places.{lent}
+use Rattle.change.specs.declared.Made.{Made}
 use Rattle.change.specs.Change.{Changed, changed_for, made}
 use Rattle.batch.specs.Turns.{one, more, behind, next, turned}
 
@@ -41,21 +42,21 @@ placed_decides p (w ∷ ws) vs a b = go (all w.tests) (placed_decides p ws vs a 
     go true ih = ih
     go false ih = refl
 
-more_decides : (k : ℕ) (ws : List Row) (g : ℕ × ℕ) → more k (decide ws g) ≡ decide ws (k + g.0, g.1)
+more_decides : (k : ℕ) (ws : List Row) (g : Made) → more k (decide ws g) ≡ decide ws (record { operations = k + g.operations; count = g.count })
 unfolding decide
 more_decides k [] g = refl
 more_decides k (w ∷ ws) g = go (all w.tests) (more_decides k ws g)
   where
-    go : (t : Bool) → more k (decide ws g) ≡ decide ws (k + g.0, g.1)
-        → more k (choose t (decide ws g) (refused w.number w.place)) ≡ choose t (decide ws (k + g.0, g.1)) (refused w.number w.place)
+    go : (t : Bool) → more k (decide ws g) ≡ decide ws (record { operations = k + g.operations; count = g.count })
+        → more k (choose t (decide ws g) (refused w.number w.place)) ≡ choose t (decide ws (record { operations = k + g.operations; count = g.count })) (refused w.number w.place)
     go true ih = ih
     go false ih = refl
 
 -- ── the law ──
 
 -- the numbers of all operations and of the mappings afterwards
-abbrev pub made_all : List Request → List Mapping → ℕ × ℕ
-made_all rs ms = (length (operations_all rs ms), length (after_all rs ms))
+abbrev pub made_all : List Request → List Mapping → Made
+made_all rs ms = record { operations = length (operations_all rs ms); count = length (after_all rs ms) }
 
 -- zeros behind the last mapping
 abbrev pub Whole : Table → Type 0
@@ -63,12 +64,12 @@ Whole t = (t.words ≡ written (length t.words) (mappings t)) × (length (mappin
 
 pub record Is (s : Space) (p : ℕ) (rs : List Request) (t : Table) (os : List ℕ) : Type 0 where
   pub reply : (turned s p rs t os).reply ≡ decide (turns_rows s (capacity t) (length os) p rs (mappings t)) (made_all rs (mappings t))
-  pub leaves : (g : ℕ × ℕ) → (turned s p rs t os).reply ≡ answered g
+  pub leaves : (g : Made) → (turned s p rs t os).reply ≡ answered g
       → ((turned s p rs t os).table ≡ written (length t.words) (after_all rs (mappings t)))
       × ((turned s p rs t os).operations ≡ flat_map words_of_operation (operations_all rs (mappings t)) ++ drop (14 * length (operations_all rs (mappings t))) os)
 
 -- an answer with more operations is a grant only if the answer is
-more_granted : (k : ℕ) (a : Reply (ℕ × ℕ)) (g : ℕ × ℕ) → more k a ≡ answered g → (h : ℕ × ℕ) × (a ≡ answered h)
+more_granted : (k : ℕ) (a : Reply Made) (g : Made) → more k a ≡ answered g → (h : Made) × (a ≡ answered h)
 more_granted k (refused n p) g e = absurd (not_both e)
 more_granted k (answered h) g e = (h, refl)
 
@@ -104,21 +105,21 @@ step s p r rs t os ih = go (decide rows (made r t)) refl
     vs : List Row
     vs = turns_rows s (capacity t) (length os - 14 * n) (suc p) rs (after r ms)
 
-    after_one : Reply (ℕ × ℕ) → Changed
+    after_one : Reply Made → Changed
     after_one d = next p (changed_for d r t os).reply (changed_for d r t os).table (changed_for d r t os).operations
-        (λ g. turned s (suc p) rs (lent (changed_for d r t os).table g.1) (drop (14 * g.0) (changed_for d r t os).operations))
+        (λ g. turned s (suc p) rs (lent (changed_for d r t os).table g.count) (drop (14 * g.operations) (changed_for d r t os).operations))
 
     decided : decide (placed p rows ++ vs) (made_all (r ∷ rs) ms) ≡ there p (decide rows (made r t)) (decide vs (made_all (r ∷ rs) ms))
     decided = placed_decides p rows vs (made r t) (made_all (r ∷ rs) ms)
 
-    go : (d : Reply (ℕ × ℕ)) → decide rows (made r t) ≡ d → Is s p (r ∷ rs) t os
+    go : (d : Reply Made) → decide rows (made r t) ≡ d → Is s p (r ∷ rs) t os
     go (refused k q) e = record {
-      reply = ap (λ (d : Reply (ℕ × ℕ)). (after_one d).reply) e ∙ sym (decided ∙ ap (λ (d : Reply (ℕ × ℕ)). there p d (decide vs (made_all (r ∷ rs) ms))) e);
-      leaves = λ g f. absurd (not_both (sym (ap (λ (d : Reply (ℕ × ℕ)). (after_one d).reply) e) ∙ f));
+      reply = ap (λ (d : Reply Made). (after_one d).reply) e ∙ sym (decided ∙ ap (λ (d : Reply Made). there p d (decide vs (made_all (r ∷ rs) ms))) e);
+      leaves = λ g f. absurd (not_both (sym (ap (λ (d : Reply Made). (after_one d).reply) e) ∙ f));
     }
     go (answered g) e = record {
       reply = ap (λ (o : Changed). o.reply) on ∙ ap (more n) (w.reply ∙ same_rows) ∙ more_decides n vs (made_all rs (after r ms)) ∙ ap (decide vs) total
-          ∙ sym (decided ∙ ap (λ (d : Reply (ℕ × ℕ)). there p d (decide vs (made_all (r ∷ rs) ms))) e);
+          ∙ sym (decided ∙ ap (λ (d : Reply Made). there p d (decide vs (made_all (r ∷ rs) ms))) e);
       leaves = λ h f.
           let k = more_granted n (turned s (suc p) rs (left t r) tail).reply h (sym (ap (λ (o : Changed). o.reply) on) ∙ f) in
           let l = w.leaves k.0 k.1 in (
@@ -157,8 +158,8 @@ step s p r rs t os ih = go (decide rows (made r t)) refl
             ap₂ (λ (c : ℕ) (ns : List Mapping). decide (turns_rows s c (length tail) (suc p) rs ns) (made_all rs ns)) (holds_capacity t (left t r) (after r ms) (holds_rewritten t (after r ms) room)) in_left
             ∙ ap (λ (m : ℕ). decide (turns_rows s (capacity t) m (suc p) rs (after r ms)) (made_all rs (after r ms))) (length-drop (14 * n) os)
 
-        total : (n + length (operations_all rs (after r ms)), length (after_all rs (after r ms))) ≡ made_all (r ∷ rs) ms
-        total = ap (λ (m : ℕ). (m, length (after_all rs (after r ms)))) (sym (length-append (operations r ms) (operations_all rs (after r ms))))
+        total : record { operations = n + length (operations_all rs (after r ms)); count = length (after_all rs (after r ms)) } ≡ made_all (r ∷ rs) ms
+        total = ap (λ (m : ℕ). record { operations = m; count = length (after_all rs (after r ms)) }) (sym (length-append (operations r ms) (operations_all rs (after r ms))))
 
         behind-words : List Mapping → List ℕ
         behind-words ns = flat_map words_of_operation (operations_all rs ns) ++ drop (14 * length (operations_all rs ns)) tail
@@ -175,6 +176,6 @@ step s p r rs t os ih = go (decide rows (made r t)) refl
 
 pub turned_is : (s : Space) (p : ℕ) (rs : List Request) (t : Table) (os : List ℕ) → Whole t → Is s p rs t os
 unfolding turned turns_rows after_all operations_all decide flat_map
-turned_is s p [] t os w = record { reply = λ i. answered (0, sym w.1 i); leaves = λ g e. (w.0, refl) }
+turned_is s p [] t os w = record { reply = λ i. answered (record { operations = 0; count = sym w.1 i }); leaves = λ g e. (w.0, refl) }
 turned_is s p (r ∷ rs) t os w = step s p r rs t os
     (λ room. turned_is s (suc p) rs (left t r) (drop (14 * length (operations r (mappings t))) os) (whole-left t r room))

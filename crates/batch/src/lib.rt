@@ -6,25 +6,18 @@
 ghost use Rattle.std.specs.Prelude.{◌≡◌, [], ◌∷◌, length};
 ghost use Rattle.model.specs.Rows.{all, verdict};
 ghost use Rattle.model.specs.Table.{operations_row, table_rows};
-ghost use Rattle.model.specs.Calls.{lent_rows, verdict_reply, answer_reply};
+ghost use Rattle.model.specs.Calls.{lent_rows, reply_of};
 ghost use Rattle.batches.specs.Batch.{requests_in, batch_row, work_row, bind_batch, batch_reply};
 ghost use Rattle.table.specs.Places.{lent};
 ghost use Rattle.change.specs.Change.{FirstBehind};
 ghost use Rattle.request.specs.Bound.{lent_words, Checked};
-ghost use Rattle.batch.specs.Turns.{one, made_of, turned, turns_reply, committed};
+ghost use Rattle.batch.specs.Turns.{one, turned, committed};
 
-use batches::BatchAnswer;
-use model::{Answer, Grant, Refusal, Request, Space, Verdict};
+use batches::BatchRefusal;
+use change::Made;
+use model::{Grant, Refusal, Request, Space};
 
 const MOST_RECORDS: usize = 64;
-
-// What the requests came to: so many operations and so many mappings afterwards, or the number and place of the first
-// refusal.
-#[derive(Clone, Copy)]
-pub enum TurnsAnswer {
-    Made(usize, usize),
-    Refused(u32, usize),
-}
 
 // Row 12: whole records, and not too many.
 fn are_records(bytes: &[u8]) -> bool
@@ -40,18 +33,14 @@ fn table_verdict(
     count: usize,
     work_words: usize,
     operation_words: usize,
-) -> Verdict
-    ensures { verdict_reply result ≡ verdict (table_rows s (operations_row operation_words (lent table.now count) ∷ work_row work_words (lent table.now count) ∷ []) (lent table.now count)) }
+) -> Result<(), Refusal>
+    ensures { reply_of result ≡ verdict (table_rows s (operations_row operation_words (lent table.now count) ∷ work_row work_words (lent table.now count) ∷ []) (lent table.now count)) }
 {
-    match request::lengths_verdict(s, table, operation_words) {
-        Verdict::Refuse(w) => Verdict::Refuse(w),
-        Verdict::Pass => {
-            if work_words != table.len() {
-                return Verdict::Refuse(Refusal::BadWorkLength);
-            }
-            inspect::contents_verdict(s, table, count)
-        }
+    request::lengths_verdict(s, table, operation_words)?;
+    if work_words != table.len() {
+        return Err(Refusal::BadWorkLength);
     }
+    inspect::contents_verdict(s, table, count)
 }
 
 // Those and row 18.
@@ -63,122 +52,94 @@ fn lent_verdict(
     count: usize,
     work_words: usize,
     operation_words: usize,
-) -> Verdict
-    ensures { verdict_reply result ≡ verdict (lent_rows s (operations_row operation_words (lent table.now count) ∷ work_row work_words (lent table.now count) ∷ []) (lent_words ranges.now range_count table.now count)) }
+) -> Result<(), Refusal>
+    ensures { reply_of result ≡ verdict (lent_rows s (operations_row operation_words (lent table.now count) ∷ work_row work_words (lent table.now count) ∷ []) (lent_words ranges.now range_count table.now count)) }
 {
-    match table_verdict(s, table, count, work_words, operation_words) {
-        Verdict::Refuse(w) => Verdict::Refuse(w),
-        Verdict::Pass => request::list_verdict(s, ranges, range_count),
-    }
+    table_verdict(s, table, count, work_words, operation_words)?;
+    request::list_verdict(s, ranges, range_count)
 }
 
 // A request in its turn: rows 13 and 14, of which no flag is served, 6 to 11 and 16, or the table cut and the operations
 // from the first word on. The first mapping that ends behind its address is at `place`.
 fn turn(
     s: Space,
-    ranges: &[u64],
-    range_count: usize,
     table: &mut [u64],
     count: usize,
     operations: &mut [u64],
     r: Request,
     place: usize,
-) -> Answer
+) -> Result<Made, Refusal>
     requires { Checked s (lent table.old count) × FirstBehind r.address (lent table.old count) place }
-    ensures { one s (lent table.old count) operations.old r ≡ record { reply = made_of (answer_reply result); table = table.new; operations = operations.new } }
+    ensures { one s (lent table.old count) operations.old r ≡ record { reply = reply_of result; table = table.new; operations = operations.new } }
 {
-    match rules::form_verdict(r, 0) {
-        Verdict::Refuse(w) => Answer::Refused(w),
-        Verdict::Pass => request::bind_request(
-            true,
-            s,
-            ranges,
-            range_count,
-            table,
-            count,
-            operations,
-            r,
-            place,
-        ),
-    }
+    rules::form_verdict(r, 0)?;
+    request::bind_known(s, table, count, operations, r, place)
 }
 
 // All records, one after another, until one is refused: each is lent the operation words that those before it left. Its place
 // is mostly near that of the one before.
 fn turns(
     s: Space,
-    ranges: &[u64],
-    range_count: usize,
     table: &mut [u64],
     count: usize,
     operations: &mut [u64],
     records: &[u8],
-) -> TurnsAnswer
+) -> Result<Made, BatchRefusal>
     requires { Checked s (lent table.old count) }
-    ensures { turned s 0 (requests_in records.now) (lent table.old count) operations.old ≡ record { reply = turns_reply result; table = table.new; operations = operations.new } }
+    ensures { turned s 0 (requests_in records.now) (lent table.old count) operations.old ≡ record { reply = batch_reply result; table = table.new; operations = operations.new } }
 {
-    let mut held = count;
-    let mut used: usize = 0;
-    let mut place: usize = 0;
-    let mut i: usize = 0;
-    while i < records.len() / record::RECORD_BYTES {
-        let at = record::RECORD_BYTES * i;
-        let r = record::fields(&records[at..at + record::RECORD_BYTES]);
-        place = table::first_near(table, held, r.address, place);
-        let answer = turn(
-            s,
-            ranges,
-            range_count,
-            table,
-            held,
-            &mut operations[cut::OPERATION_WORDS * used..],
-            r,
-            place,
-        );
-        match answer {
-            Answer::Refused(w) => {
-                return TurnsAnswer::Refused(rules::refusal_number(w), i);
+    let mut made = Made {
+        operations: 0,
+        count,
+    };
+    let mut place = 0;
+    let (records, _) = records.as_chunks::<{ record::RECORD_BYTES }>();
+    for (i, bytes) in records.iter().enumerate() {
+        let r = record::fields(bytes);
+        place = table::first_near(table, made.count, r.address, place);
+        let left = &mut operations[cut::OPERATION_WORDS * made.operations..];
+        match turn(s, table, made.count, left, r, place) {
+            Ok(next) => {
+                made = Made {
+                    operations: made.operations + next.operations,
+                    count: next.count,
+                };
             }
-            Answer::Granted(g) => {
-                held = g.count;
-                used = used + g.operations;
-            }
+            Err(refusal) => return Err(BatchRefusal::at(refusal, i)),
         }
-        i += 1;
     }
-    TurnsAnswer::Made(used, held)
+    Ok(made)
 }
 
 // All or none: the table's mappings are kept in the work table, and put back where a request is refused; behind them there
 // were zeros. Then no operation is left either. The work table is zeros afterwards.
 fn all_or_none(
     s: Space,
-    ranges: &[u64],
-    range_count: usize,
+    ranges: usize,
     table: &mut [u64],
     count: usize,
     work: &mut [u64],
     operations: &mut [u64],
     records: &[u8],
-) -> BatchAnswer
+) -> Result<Grant, BatchRefusal>
     requires { Checked s (lent table.old count) × (length work.old ≡ length table.old) }
-    ensures { committed range_count (turned s 0 (requests_in records.now) (lent table.old count) operations.old) table.old work.old operations.old ≡ record { answer = batch_reply result; table = table.new; work = work.new; operations = operations.new } }
+    ensures { committed ranges (turned s 0 (requests_in records.now) (lent table.old count) operations.old) table.old work.old operations.old ≡ record { answer = batch_reply result; table = table.new; work = work.new; operations = operations.new } }
 {
     words::store(work, 0, &table[..4 * count]);
-    match turns(s, ranges, range_count, table, count, operations, records) {
-        TurnsAnswer::Refused(number, place) => {
+    match turns(s, table, count, operations, records) {
+        Err(refusal) => {
             words::store(table, 0, &work[..4 * count]);
             words::clear(table, 4 * count, table.len());
             words::clear(work, 0, work.len());
             words::clear(operations, 0, operations.len());
-            BatchAnswer::Refused(number, place)
+            Err(refusal)
         }
-        TurnsAnswer::Made(made, after) => {
+        Ok(made) => {
             words::clear(work, 0, work.len());
-            BatchAnswer::Granted(Grant {
-                operations: made,
-                count: after,
-                ranges: range_count,
+            Ok(Grant {
+                operations: made.operations,
+                count: made.count,
+                ranges,
             })
         }
     }
@@ -197,13 +158,13 @@ pub fn bind_batch(
     work: &mut [u64],
     operations: &mut [u64],
     records: &[u8],
-) -> BatchAnswer
+) -> Result<Grant, BatchRefusal>
     ensures { bind_batch s (lent_words ranges.now range_count table.old count) work.old operations.old records.now ≡ record { answer = batch_reply result; table = table.new; work = work.new; operations = operations.new } }
 {
     if !are_records(records) {
-        return BatchAnswer::Refused(rules::refusal_number(Refusal::BadRecordLength), 0);
+        return Err(BatchRefusal::from(Refusal::BadRecordLength));
     }
-    match lent_verdict(
+    lent_verdict(
         s,
         ranges,
         range_count,
@@ -211,19 +172,6 @@ pub fn bind_batch(
         count,
         work.len(),
         operations.len(),
-    ) {
-        Verdict::Refuse(w) => {
-            BatchAnswer::Refused(rules::refusal_number(w), rules::refusal_place(w))
-        }
-        Verdict::Pass => all_or_none(
-            s,
-            ranges,
-            range_count,
-            table,
-            count,
-            work,
-            operations,
-            records,
-        ),
-    }
+    )?;
+    all_or_none(s, range_count, table, count, work, operations, records)
 }

@@ -33,7 +33,7 @@ place_of (refused n p) = p
 place_of (answered a) = 0
 
 -- what holds of each row's number and place holds of a refusal's
-refusal_of : {A : Type 0} (P : ℕ → ℕ → Type 0) (ws : List Row) (a : A) (n p : ℕ) → Each (λ w. P w.number w.place) ws
+pub refusal_of : {A : Type 0} (P : ℕ → ℕ → Type 0) (ws : List Row) (a : A) (n p : ℕ) → Each (λ w. P w.number w.place) ws
     → decide ws a ≡ refused n p → P n p
 refusal_of {A} P ws a n p h = decide_holds Holds ws a
     (each_map (λ w. P w.number w.place) (λ w. Alls w.tests ⊎ Holds (refused w.number w.place)) ws (λ w k. inr (of_row w.number w.place k)) h)

@@ -17,6 +17,16 @@ pub struct BatchRefusal {
     pub ghost own: { place_in refusal place ≡ place },
 }
 
+impl BatchRefusal {
+    // A refusal that the request at a place gets in its turn.
+    pub fn at(refusal: Refusal, place: usize) -> BatchRefusal
+        requires { place_in refusal place ≡ place }
+        ensures { (result.refusal ≡ refusal) × (result.place ≡ place) }
+    {
+        BatchRefusal { refusal, place }
+    }
+}
+
 // The batch's own refusals, as `?` passes them on.
 impl From<Refusal> for BatchRefusal {
     ghost from_gives = { λ w b. (b.refusal ≡ w) × (b.place ≡ (numbered w).1) };

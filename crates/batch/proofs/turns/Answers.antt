@@ -1,54 +1,31 @@
 use mathlib.Core.Path.{refl, sym, ap, ◌∙◌}
 use borrow.Rule.Slice.PartMut.{mid_len}
-use Prim.Native.Nat.{ℕ, ◌*◌}
+use Prim.Native.Nat.{◌*◌}
 use native.Mathlib.Omega.{arith}
 use lib.ListN.{length}
-use Rattle.model.specs.Rows.{refused}
-use Rattle.model.specs.Calls.{numbered, answer_reply}
-use Rattle.table.specs.Places.{lent}
-use Rattle.model.specs.declared.Answer.{Answer}
-use Rattle.batch.specs.Turns.{made_of}
-use Rattle.batch.proofs.Steps.{going_start, part_length, refused_there, granted_there, granted_fits, ends}
-use borrow.Author.Rules.{rules}
+use Rattle.model.specs.Calls.{refusal_reply, reply_of}
+use Rattle.batch.proofs.Ones.{turn_place}
+use Rattle.batch.proofs.Steps.{refused_there, granted_there, granted_fits, ends, by_chunks}
 use Rattle.batch.proofs.turns.Goals as goal
 
-pub loop-i-init : goal.loop-i-init
-loop-i-init c =
-    let a = c.args in
-    (refl, refl, omega arith, going_start a.s a.records.now (lent a.table.now a.count) a.operations.now c.requires)
+pub overflow_add-made : goal.overflow_add-made
+overflow_add-made c =
+    let h = granted_fits c.loop-i.invariant refl (rw c.fields-r.ensures at c.turn.ensures) (ap reply_of c.in-Ok.is) in
+    record { fits = omega (arith, h, c.ranges) }
 
-pub fields-r-requires : goal.fields-r-requires
-fields-r-requires c = part_length c.loop-i.invariant.3 (omega (arith, c.loop-i-test.true))
+pub at-requires : goal.at-requires
+at-requires c = turn_place _ _ _ _ c.in-Err.refusal c.loop-i.i c.in-Err.ensures
 
-pub first_near-place-requires : goal.first_near-place-requires
-first_near-place-requires c = c.loop-i.invariant.3.checked.table.0
-
-pub turn-answer-requires : goal.turn-answer-requires
-turn-answer-requires c =
-    (c.loop-i.invariant.3.checked, c.first_near-place.ensures)
-
-pub returns-in-Refused : goal.returns-in-Refused
-returns-in-Refused c =
-    refused_there c.loop-i.invariant.3 (rw c.fields-r.ensures at c.turn-answer.ensures) (omega (arith, c.loop-i-test.true))
-    (ap (λ (a : Answer). made_of (answer_reply a)) c.in-Refused.is ∙ ap (λ (n : ℕ). refused n (numbered c.in-Refused.w).1) (sym c.refusal_number.ensures))
-
-pub overflow_add-used : goal.overflow_add-used
-overflow_add-used c =
-    let h = granted_fits c.loop-i.invariant.3 (rw c.fields-r.ensures at c.turn-answer.ensures) (ap (λ (a : Answer). made_of (answer_reply a)) c.in-Granted.is) in
-    record { fits = omega (arith, h, c.loop-i.invariant.1, c.ranges) }
-
-pub overflow_add-i : goal.overflow_add-i
-overflow_add-i c =
-    record { fits = omega (arith, c.loop-i-test.true, c.ranges) }
+pub returns-in-Err : goal.returns-in-Err
+returns-in-Err c =
+    by_chunks c.args.s _ c.args.operations.now c.args.records.now c.as_chunks.ensures.front
+    (refused_there c.loop-i.invariant refl (rw c.fields-r.ensures at c.turn.ensures) c.loop-i-test.true
+    (ap reply_of c.in-Err.is ∙ ap refusal_reply (sym c.at.ensures.0)) c.at.ensures.1)
 
 pub loop-i-preserved : goal.loop-i-preserved
-loop-i-preserved c = (
-  search rules,
-  search rules,
-  omega (arith, c.loop-i-test.true),
-  granted_there c.loop-i.invariant.3 (rw c.fields-r.ensures at c.turn-answer.ensures) (omega (arith, c.loop-i-test.true)) (ap (λ (a : Answer). made_of (answer_reply a)) c.in-Granted.is)
-      (c.turn-answer.auto.operations ∙ mid_len (14 * c.loop-i.used) (length c.loop-i.operations) c.loop-i.operations (omega arith)),
-)
+loop-i-preserved c =
+    granted_there c.loop-i.invariant refl (rw c.fields-r.ensures at c.turn.ensures) c.loop-i-test.true (ap reply_of c.in-Ok.is)
+    (c.turn.auto.operations ∙ mid_len (14 * c.loop-i.made.operations) (length c.loop-i.operations) c.loop-i.operations (omega arith))
 
 pub returns : goal.returns
-returns c = ends c.loop-i.invariant.3 (omega (arith, c.loop-i-test.false))
+returns c = by_chunks c.args.s _ c.args.operations.now c.args.records.now c.as_chunks.ensures.front (ends c.loop-i.invariant c.loop-i-test.false)

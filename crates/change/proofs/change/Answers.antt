@@ -1,20 +1,7 @@
 use native.Mathlib.Omega.{arith}
-use Rattle.model.proofs.New.{new_most}
 use Rattle.change.proofs.Hits.{hit_at}
 use Rattle.change.proofs.Changed.{fits_places, full, short, carried_out}
 use Rattle.change.proofs.change.Goals as goal
-
-pub overflow_add-after : goal.overflow_add-after
-overflow_add-after c =
-    omega (arith, c.behind_hits-hi.ensures, c.requires.0.table.held, c.replacement_length.ensures.1, c.ranges)
-
-pub overflow_add-after-2 : goal.overflow_add-after-2
-overflow_add-after-2 c =
-    omega (arith, c.behind_hits-hi.ensures, c.requires.0.table.held, c.replacement_length.ensures.1, c.ranges)
-
-pub overflow_mul-number : goal.overflow_mul-number
-overflow_mul-number c =
-    omega (arith, c.operations_number-number.ensures, c.behind_hits-hi.ensures, c.requires.0.table.held, c.ranges, new_most c.args.r)
 
 pub returns-then-is_full : goal.returns-then-is_full
 returns-then-is_full c =
