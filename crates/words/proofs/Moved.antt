@@ -39,17 +39,6 @@ moved_word ws from to h k =
     let d : to + 0 ≡ to = omega arith in
     rw (moved_none ws from to, e, d) at (moved-next ws from to 0 (omega arith) (omega arith))
 
-pub moved_four : (ws : List ℕ) (from to : ℕ) → from + 4 ≤ length ws → to + 4 ≤ length ws
-    → set (set (set (set ws to (get_or ws from 0)) (to + 1) (get_or ws (from + 1) 0)) (to + 2) (get_or ws (from + 2) 0)) (to + 3) (get_or ws (from + 3) 0)
-    ≡ moved ws from to 4
-moved_four ws from to h k =
-    rw (
-      moved_word ws from to (omega arith) (omega arith),
-      moved-next ws from to 1 (omega arith) (omega arith),
-      moved-next ws from to 2 (omega arith) (omega arith),
-    )
-    (moved-next ws from to 3 (omega arith) (omega arith))
-
 -- downwards the words that come next stand behind what was written
 pub moved_down : (ws : List ℕ) (from to j k : ℕ) → to ≤ from → from + j + k ≤ length ws
     → moved (moved ws from to j) (from + j) (to + j) k ≡ moved ws from to (j + k)
@@ -76,15 +65,6 @@ moved_up ws from to j k h r =
     let m : length ys ≡ k = length_part ws from k (omega arith) in
     let b = stored_before ws to xs ys (omega arith) in
     rw (part-stored ws (to + k) xs from k (omega arith) (omega arith), take-add k j (drop from ws), drop-drop k from ws) (rw m at b)
-
--- k words more of n, of which those from j on were moved
-pub moved_more : (ws : List ℕ) (from to n j k : ℕ) → k ≤ j → j ≤ n → from ≤ to → to + n ≤ length ws
-    → moved (moved ws (from + j) (to + j) (n - j)) (from + (j - k)) (to + (j - k)) k ≡ moved ws (from + (j - k)) (to + (j - k)) (n - (j - k))
-moved_more ws from to n j k h l o r =
-    let f : from + (j - k) + k ≡ from + j = omega arith in
-    let t : to + (j - k) + k ≡ to + j = omega arith in
-    let m : n - (j - k) ≡ k + (n - j) = omega arith in
-    rw m (rw (f, t) at (moved_up ws (from + (j - k)) (to + (j - k)) (n - j) k (omega arith) (omega arith)))
 
 -- in the part that is lent from a place on
 pub moved-part : (ws : List ℕ) (at from to n : ℕ) {part : List ℕ} → at ≤ length ws → part ≡ moved (mid_of at (length ws - at) ws) from to n

@@ -118,12 +118,6 @@ stored_next ws at run j h k =
     let l : length (take j run) ≡ j = length-take-le j run (omega arith) in
     rw (add-one j, take-suc run j 0) (rw l at (stored_word ws at (take j run) (get_or run j 0) (omega arith)))
 
-pub zeros_next : (ws : List ℕ) (at k : ℕ) → at + k < length ws → set (stored ws at (replicate k 0)) (at + k) 0 ≡ stored ws at (replicate (k + 1) 0)
-zeros_next ws at k h =
-    let zs : List ℕ = replicate k 0 in
-    let l : length zs ≡ k = length-replicate k 0 in
-    rw (← replicate-append-replicate {A = ℕ} k 1 0) (rw l at (stored_word ws at zs 0 (omega arith)))
-
 -- zeros, and more behind them
 pub zeros_more : (ws : List ℕ) (at n m : ℕ) → at ≤ length ws
     → stored (stored ws at (replicate n 0)) (at + n) (replicate m 0) ≡ stored ws at (replicate (n + m) 0)

@@ -2,13 +2,15 @@
 -- Assumes nothing.
 use mathlib.Core.Path.{◌≡◌, refl, sym, ap, ◌∙◌}
 use mathlib.Core.List.{List, [], ◌∷◌}
-use Prim.Native.Nat.{ℕ, ◌+◌, ◌-◌, ◌≤◌, ◌<◌}
+use Prim.Native.Nat.{ℕ, zero, suc, ◌*◌, ◌+◌, ◌-◌, ◌≤◌, ◌<◌}
 use native.Mathlib.Omega.{arith}
+use Rattle.std.specs.List.{fold}
+use Rattle.std.specs.Simd.{first_chunks}
 use lib.Bits.{bit_or, or_add_and, and_le_l, and_le_r}
-use lib.ListN.{length, get_or, take, drop, replicate, take-append-drop, drop_of_length-le, length-drop, length-replicate, replicate-append-replicate}
-use lib.Seq.{take_at, drop_at, take-add, take-take, take-length, drop-drop, drop-cons}
-use Rattle.words.specs.declared.Four.{Four}
+use lib.ListN.{length, get_or, take, drop, replicate, take-append-drop, length-drop, length-replicate, replicate-append-replicate}
+use lib.Seq.{length-take-le, take_at, drop_at, take-add, take-take, take-length, drop-drop, drop-cons}
 use Rattle.words.specs.Words.{stored, cleared, Zeros, ZeroFrom, Tells, Blank, Joins}
+use borrow.Author.Rules.{rules}
 use Rattle.words.proofs.Stored.{drop-take, drop-stored, length-stored, cleared_twice}
 
 or-zero : (a b : ℕ) → bit_or a b ≡ 0 → (a ≡ 0) × (b ≡ 0)
@@ -47,42 +49,23 @@ module _ (ws : List ℕ) (from : ℕ) where
     seen_zero = λ z. zero_or a b (t.seen_zero (zeros_first n m z)) (u.seen_zero (zeros_second n m h z));
   }
 
-  -- ── none, one ──
-
-  pub none_tells : Tells ws from 0 0
-  none_tells = record { words_zero = λ e. refl; seen_zero = λ z. refl }
-
+  -- one
   pub word_tells : from < length ws → Tells ws from 1 (get_or ws from 0)
   word_tells h =
       let e : take 1 (drop from ws) ≡ get_or ws from 0 ∷ [] = ap (take 1) (drop-cons ws from 0 h) in
       record { words_zero = λ z. e ∙ rw z; seen_zero = λ z. ap (λ (l : List ℕ). get_or l 0 0) (sym e ∙ z) }
 
-  -- those up to place i, and m more
-  pub more_tell : {a b : ℕ} (i m : ℕ) → from ≤ i → i + m ≤ length ws → Tells ws from (i - from) a → Tells ws i m b
-      → Tells ws from (i + m - from) (bit_or a b)
-  more_tell i m h k t u =
-      let at : from + (i - from) ≡ i = omega arith in
-      let e : i + m - from ≡ i - from + m = omega arith in
-      rw e (both_tell (i - from) m (omega arith) t (rw at u))
-
   -- ── in four words, with what was joined before ──
 
-  pub none_join : (seen : Four) → Joins seen ws from 0 seen
+  pub none_join : (seen : List ℕ) → Joins seen ws from 0 seen
   none_join seen = record { words_zero = λ b. (b, refl); all_zero = λ b z. b }
 
-  pub more_join : {seen most all : Four} (n m : ℕ) → from + n ≤ length ws → Joins seen ws from n most → Joins most ws (from + n) m all
+  pub more_join : {seen most all : List ℕ} (n m : ℕ) → from + n ≤ length ws → Joins seen ws from n most → Joins most ws (from + n) m all
       → Joins seen ws from (n + m) all
   more_join n m h j k = record {
     words_zero = λ b. let p = k.words_zero b in let q = j.words_zero p.0 in (q.0, zeros_both n m q.1 p.1);
     all_zero = λ b z. k.all_zero (j.all_zero b (zeros_first n m z)) (zeros_second n m h z);
   }
-
-  -- four of the same length, one behind the other
-  pub four_join : {seen one two three all : Four} (n : ℕ) → from + (n + n + n + n) ≤ length ws → Joins seen ws from n one
-      → Joins one ws (from + n) n two → Joins two ws (from + (n + n)) n three → Joins three ws (from + (n + n + n)) n all
-      → Joins seen ws from (n + n + n + n) all
-  four_join n h p q r s =
-      more_join (n + n + n) n (omega arith) (more_join (n + n) n (omega arith) (more_join n n (omega arith) p q) r) s
 
   -- ── all of them ──
 
@@ -96,7 +79,7 @@ module _ (ws : List ℕ) (from : ℕ) where
   zero-all z = all_words ∙ z
 
   -- n of them joined in four words, those behind in one
-  pub joined_zero : {none all : Four} {rest : ℕ} (n : ℕ) → from + n ≤ length ws → Blank none → Joins none ws from n all
+  pub joined_zero : {none all : List ℕ} {rest : ℕ} (n : ℕ) → from + n ≤ length ws → Blank none → Joins none ws from n all
       → Tells ws (from + n) (length ws - (from + n)) rest → (Blank all → rest ≡ 0 → ZeroFrom ws from) × (ZeroFrom ws from → Blank all × (rest ≡ 0))
   joined_zero n h none j t =
       let e : length ws - from ≡ n + (length ws - (from + n)) = omega arith in (
@@ -105,15 +88,6 @@ module _ (ws : List ℕ) (from : ℕ) where
             let y = rw e at (zero-all z) in
             (j.all_zero none (zeros_first n (length ws - (from + n)) y), t.seen_zero (zeros_second n (length ws - (from + n)) h y)),
       )
-
-  -- all of them joined in one
-  pub all_tell : {seen : ℕ} → Tells ws from (length ws - from) seen → (seen ≡ 0 → ZeroFrom ws from) × (ZeroFrom ws from → seen ≡ 0)
-  all_tell t = (λ e. all_zero (t.words_zero e), λ z. t.seen_zero (zero-all z))
-
-  pub zero-end : from ≡ length ws → ZeroFrom ws from
-  zero-end e =
-      let n : length ws - from ≡ 0 = omega arith in
-      rw n (drop_of_length-le ws {i = from} (omega arith))
 
   -- where they are, a clear changes nothing
   pub cleared-zero : ZeroFrom ws from → cleared ws from ≡ ws
@@ -127,12 +101,13 @@ module _ (ws : List ℕ) (from : ℕ) where
       rw d at (sym (drop-drop (to - from) from ws)) ∙ ap (drop (to - from)) (z ∙ rw n) ∙ drop_zeros (to - from) (length ws - to)
 
 -- four words, each joined with its own
-pub words_join : (ws : List ℕ) (at : ℕ) (seen : Four) → at + 4 ≤ length ws → Joins seen ws at 4 (record {
-  first = bit_or seen.first (get_or ws at 0);
-  second = bit_or seen.second (get_or ws (at + 1) 0);
-  third = bit_or seen.third (get_or ws (at + 2) 0);
-  fourth = bit_or seen.fourth (get_or ws (at + 3) 0);
-})
+pub words_join : (ws : List ℕ) (at : ℕ) (seen : List ℕ) → at + 4 ≤ length ws → Joins seen ws at 4 (
+    bit_or (get_or seen 0 0) (get_or ws at 0)
+    ∷ bit_or (get_or seen 1 0) (get_or ws (at + 1) 0)
+    ∷ bit_or (get_or seen 2 0) (get_or ws (at + 2) 0)
+    ∷ bit_or (get_or seen 3 0) (get_or ws (at + 3) 0)
+    ∷ []
+    )
 words_join ws at seen h =
     let a = word_tells ws at (omega arith) in
     let b = word_tells ws (at + 1) (omega arith) in
@@ -154,8 +129,8 @@ words_join ws at seen h =
     }
 
 -- all of them, and the word to which the rest was joined
-pub blank_or : (all : Four) (rest : ℕ) → bit_or (bit_or (bit_or (bit_or all.first all.second) all.third) all.fourth) rest ≡ 0
-    → Blank all × (rest ≡ 0)
+pub blank_or : (all : List ℕ) (rest : ℕ)
+    → bit_or (bit_or (bit_or (bit_or (get_or all 0 0) (get_or all 1 0)) (get_or all 2 0)) (get_or all 3 0)) rest ≡ 0 → Blank all × (rest ≡ 0)
 blank_or all rest e =
     let p = or-zero _ _ e in
     let q = or-zero _ _ p.0 in
@@ -163,9 +138,86 @@ blank_or all rest e =
     let s = or-zero _ _ r.0 in
     ((s.0, s.1, r.1, q.1), p.1)
 
-pub or_blank : (all : Four) (rest : ℕ) → Blank all → rest ≡ 0
-    → bit_or (bit_or (bit_or (bit_or all.first all.second) all.third) all.fourth) rest ≡ 0
+pub or_blank : (all : List ℕ) (rest : ℕ) → Blank all → rest ≡ 0
+    → bit_or (bit_or (bit_or (bit_or (get_or all 0 0) (get_or all 1 0)) (get_or all 2 0)) (get_or all 3 0)) rest ≡ 0
 or_blank all rest b e = zero_or _ _ (zero_or _ _ (zero_or _ _ (zero_or _ _ b.0 b.1) b.2) b.3) e
+
+-- ── words of a part are words of the whole ──
+
+module _ (ws part : List ℕ) (from m n : ℕ) (is : part ≡ take m (drop from ws)) (h : n ≤ m) where
+  part_words : take n part ≡ take n (drop from ws)
+  part_words = ap (take n) is ∙ take-take n m (drop from ws) h
+
+  pub part_tells : {seen : ℕ} → Tells part 0 n seen → Tells ws from n seen
+  part_tells t = record { words_zero = λ e. sym part_words ∙ t.words_zero e; seen_zero = λ z. t.seen_zero (part_words ∙ z) }
+
+  pub part_joins : {seen all : List ℕ} → Joins seen part 0 n all → Joins seen ws from n all
+  part_joins j = record {
+    words_zero = λ b. let z = j.words_zero b in (z.0, sym part_words ∙ z.1);
+    all_zero = λ b z. j.all_zero b (part_words ∙ z);
+  }
+
+pub chunk_is : (n k i : ℕ) (ws d : List ℕ) → i < k → get_or (first_chunks n k ws) i d ≡ take n (drop (n * i) ws)
+chunk_is n zero i ws d h = grind arith
+chunk_is n (suc k) zero ws d h =
+    let e : n * 0 ≡ 0 = omega arith in
+    rw e
+chunk_is n (suc k) (suc i) ws d h =
+    let e : n * suc i ≡ n + n * i = grind arith in
+    chunk_is n k i (drop n ws) d (omega arith) ∙ rw (drop-drop (n * i) n ws, e)
+
+pub length_chunk : (n k i : ℕ) (ws part : List ℕ) → i < k → n * k ≤ length ws → part ≡ get_or (first_chunks n k ws) i [] → length part ≡ n
+length_chunk n k i ws part h l e =
+    let more : n * (i + 1) ≡ n * i + n = grind arith in
+    let fit : n * (i + 1) ≤ n * k = search rules in
+    rw (e ∙ chunk_is n k i ws [] h) (length-take-le n (drop (n * i) ws) (simp length-drop (omega arith)))
+
+-- one chunk more of n words
+pub chunk_joins : (ws part : List ℕ) (n k i : ℕ) {seen most all : List ℕ} → i < k → n * k ≤ length ws
+    → part ≡ get_or (first_chunks n k ws) i [] → Joins seen ws 0 (n * i) most → Joins most part 0 n all → Joins seen ws 0 (n * (i + 1)) all
+chunk_joins ws part n k i h l e j m =
+    let is = e ∙ chunk_is n k i ws [] h in
+    let at : 0 + n * i ≡ n * i = omega arith in
+    let more : n * (i + 1) ≡ n * i + n = grind arith in
+    let fit : n * (i + 1) ≤ n * k = search rules in
+    rw more (more_join ws 0 (n * i) n (omega arith) j (rw at (part_joins ws part (n * i) n n is (omega arith) m)))
+
+-- the words up to a place joined in four, those behind up to the next too, and the rest in one
+pub all_joined : (ws behind rest : List ℕ) (most more : ℕ) {none some all : List ℕ} {seen : ℕ} → most + more ≤ length ws
+    → behind ≡ drop most ws → rest ≡ drop more behind → Blank none → Joins none ws 0 most some → Joins some behind 0 more all
+    → Tells rest 0 (length rest) seen → (Blank all → seen ≡ 0 → ZeroFrom ws 0) × (ZeroFrom ws 0 → Blank all × (seen ≡ 0))
+all_joined ws behind rest most more {some = some} {all = all} {seen = seen} h b r none p q t =
+    let from : 0 + most ≡ most = omega arith in
+    let end : 0 + (most + more) ≡ most + more = omega arith in
+    let last : rest ≡ drop (most + more) ws = r ∙ rw b (drop-drop more most ws) in
+    let n : ℕ = length ws - (most + more) in
+    let l : length rest ≡ n = rw last (length-drop (most + more) ws) in
+    let second : Joins some ws (0 + most) more all =
+    rw from (part_joins ws behind most (length ws - most) more (b ∙ sym (all_words ws most)) (omega arith) q)
+    in
+    let third : Tells ws (0 + (most + more)) (length ws - (0 + (most + more))) seen =
+    rw end (part_tells ws rest (most + more) n n (last ∙ sym (all_words ws (most + more))) (omega arith) (rw l at t))
+    in
+    joined_zero ws 0 (most + more) (omega arith) none (more_join ws 0 most more (omega arith) p second) third
+
+-- ── words joined one by one ──
+
+or_fold : (a : ℕ) (ws : List ℕ) → fold bit_or a ws ≡ 0 → (a ≡ 0) × (ws ≡ replicate (length ws) 0)
+or_fold a [] e = (e, refl)
+or_fold a (w ∷ ws) e =
+    let more = or_fold (bit_or a w) ws e in
+    let both = or-zero a w more.0 in
+    (both.0, ap (λ x. x ∷ ws) both.1 ∙ ap (λ (xs : List ℕ). 0 ∷ xs) more.1)
+
+fold_or : (n : ℕ) → fold bit_or 0 (replicate n 0) ≡ 0
+fold_or zero = refl
+fold_or (suc n) = rw (zero_or 0 0 refl refl) (fold_or n)
+
+pub fold_tells : (ws : List ℕ) → Tells ws 0 (length ws) (fold bit_or 0 ws)
+fold_tells ws = record {
+  words_zero = λ e. take-length ws ∙ (or_fold 0 ws e).1;
+  seen_zero = λ z. ap (fold bit_or 0) (sym (take-length ws) ∙ z) ∙ fold_or (length ws);
+}
 
 -- a run stored before them leaves them zero
 pub zero-stored : (ws : List ℕ) (at : ℕ) (run : List ℕ) (from : ℕ) → at + length run ≤ from → at + length run ≤ length ws

@@ -1,7 +1,6 @@
 -- What is done to the words of a slice, as lists.
 -- Assumes nothing.
-use Rattle.std.specs.Prelude.{◌≡◌, List, ◌++◌, ℕ, ◌+◌, ◌-◌, length, take, drop, replicate}
-use Rattle.words.specs.declared.Four.{Four}
+use Rattle.std.specs.Prelude.{◌≡◌, List, ◌++◌, ℕ, ◌+◌, ◌-◌, length, take, drop, replicate, slice_index}
 
 -- a run written over the elements from place `at` on
 unfoldable pub stored : {A : Type 0} → List A → ℕ → List A → List A
@@ -28,10 +27,10 @@ pub record Tells (ws : List ℕ) (from n seen : ℕ) : Type 0 where
   pub seen_zero : Zeros ws from n → seen ≡ 0
 
 -- four words are zero
-abbrev pub Blank : Four → Type 0
-Blank f = (f.first ≡ 0) × (f.second ≡ 0) × (f.third ≡ 0) × (f.fourth ≡ 0)
+abbrev pub Blank : List ℕ → Type 0
+Blank f = (slice_index f 0 ≡ 0) × (slice_index f 1 ≡ 0) × (slice_index f 2 ≡ 0) × (slice_index f 3 ≡ 0)
 
 -- what they were joined to in four words, with what was joined before, is zero exactly if both are
-pub record Joins (seen : Four) (ws : List ℕ) (from n : ℕ) (all : Four) : Type 0 where
+pub record Joins (seen ws : List ℕ) (from n : ℕ) (all : List ℕ) : Type 0 where
   pub words_zero : Blank all → Blank seen × Zeros ws from n
   pub all_zero : Blank seen → Zeros ws from n → Blank all

@@ -1,17 +1,8 @@
 // Runs of words inside one lent slice: stored, moved, cleared and looked at.
 #![tactic(auto)]
 
-ghost use Rattle.std.specs.Prelude.{◌≡◌, true, ◌+◌, ◌-◌, ◌*◌, ◌<◌, ◌≤◌, length, replicate};
-ghost use Rattle.words.specs.Words.{stored, moved, Tells, Blank, Joins, ZeroFrom};
-
-// Words joined bit by bit, four at a time: the first ones of each four, the second ones, and so on.
-#[derive(Clone, Copy)]
-struct Four {
-    first: u64,
-    second: u64,
-    third: u64,
-    fourth: u64,
-}
+ghost use Rattle.std.specs.Prelude.{◌≡◌, true, ◌+◌, ◌-◌, ◌*◌, ◌/◌, ◌<◌, ◌≤◌, length, replicate};
+ghost use Rattle.words.specs.Words.{stored, moved, Tells, Joins, ZeroFrom};
 
 // Writes the run over the elements from `at` on.
 #[tactic(auto, unfolding(crate::specs::Words::stored))]
@@ -84,6 +75,7 @@ fn down_by<const D: usize>(t: &mut [u64], n: usize)
 
 // What `copy_run` does, for a table: a request moves its mappings by one or two, and mostly by no more, which is four words
 // or eight.
+#[tactic(auto, using(crate::proofs::Moved::moved_in_part, crate::proofs::Moved::moved_same))]
 pub fn move_run(t: &mut [u64], from: usize, to: usize, n: usize)
     requires { (from + n ≤ length t.old) × (to + n ≤ length t.old) }
     ensures { t.new ≡ moved t.old from to n }
@@ -113,97 +105,29 @@ pub fn clear(t: &mut [u64], from: usize, to: usize)
     t[from..to].fill(0)
 }
 
-// Nothing was joined yet.
-fn none_joined() -> Four
-    ensures { Blank result }
+// The words joined bit by bit to one.
+#[tactic(auto, using(crate::proofs::Zeros::fold_tells))]
+fn joined(words: &[u64]) -> u64
+    ensures { Tells words.now 0 (length words.now) result }
 {
-    Four {
-        first: 0,
-        second: 0,
-        third: 0,
-        fourth: 0,
-    }
+    words.iter().fold(0, |seen, word| seen | word)
 }
 
-// Four words more, each joined with its own.
-fn join_four(seen: Four, t: &[u64], at: usize) -> Four
-    requires { at + 4 ≤ length t.now }
-    ensures { Joins seen t.now at 4 result }
+// Words joined to four, as a mapping has: the first ones of each four, the second ones, and so on. Fewer than four at the end
+// are left.
+fn join_fours(seen: [u64; 4], words: &[u64]) -> [u64; 4]
+    ensures { Joins seen words.now 0 (4 * (length words.now / 4)) result }
 {
-    Four {
-        first: seen.first | t[at],
-        second: seen.second | t[at + 1],
-        third: seen.third | t[at + 2],
-        fourth: seen.fourth | t[at + 3],
-    }
-}
-
-// Sixteen more.
-fn join_sixteen(seen: Four, t: &[u64], at: usize) -> Four
-    requires { at + 16 ≤ length t.now }
-    ensures { Joins seen t.now at 16 result }
-{
-    let one = join_four(seen, t, at);
-    let two = join_four(one, t, at + 4);
-    let three = join_four(two, t, at + 8);
-    join_four(three, t, at + 12)
-}
-
-// A turn: a hundred and twenty-eight more. Turns of this length read memory the quickest.
-fn join_turn(seen: Four, t: &[u64], at: usize) -> Four
-    requires { at + 128 ≤ length t.now }
-    ensures { Joins seen t.now at 128 result }
-{
-    let one = join_sixteen(seen, t, at);
-    let two = join_sixteen(one, t, at + 16);
-    let three = join_sixteen(two, t, at + 32);
-    let four = join_sixteen(three, t, at + 48);
-    let five = join_sixteen(four, t, at + 64);
-    let six = join_sixteen(five, t, at + 80);
-    let seven = join_sixteen(six, t, at + 96);
-    join_sixteen(seven, t, at + 112)
-}
-
-// So many turns.
-fn join_turns(seen: Four, t: &[u64], from: usize, turns: usize) -> Four
-    requires { from + 128 * turns ≤ length t.now }
-    ensures { Joins seen t.now from (128 * turns) result }
-{
-    let mut i: usize = 0;
     let mut all = seen;
-    while i < turns {
-        all = join_turn(all, t, from + 128 * i);
-        i += 1;
+    for four in words.as_chunks::<4>().0 {
+        all = [
+            all[0] | four[0],
+            all[1] | four[1],
+            all[2] | four[2],
+            all[3] | four[3],
+        ];
     }
     all
-}
-
-// `fours` times four more, fewer than make a turn.
-fn join_fours(seen: Four, t: &[u64], from: usize, fours: usize) -> Four
-    requires { from + 4 * fours ≤ length t.now }
-    ensures { Joins seen t.now from (4 * fours) result }
-{
-    let mut i: usize = 0;
-    let mut all = seen;
-    while i < fours {
-        all = join_four(all, t, from + 4 * i);
-        i += 1;
-    }
-    all
-}
-
-// All words from `from` on joined to one, one by one.
-fn joined_from(t: &[u64], from: usize) -> u64
-    requires { from ≤ length t.now }
-    ensures { Tells t.now from (length t.now - from) result }
-{
-    let mut i = from;
-    let mut seen: u64 = 0;
-    while i < t.len() {
-        seen = seen | t[i];
-        i += 1;
-    }
-    seen
 }
 
 // Whether all words from `from` on are zero, where they are few: joined one by one.
@@ -211,23 +135,28 @@ pub fn few_are_zero_from(t: &[u64], from: usize) -> bool
     requires { from ≤ length t.now }
     ensures { (result ≡ true → ZeroFrom t.now from) × (ZeroFrom t.now from → result ≡ true) }
 {
-    joined_from(t, from) == 0
+    joined(&t[from..]) == 0
 }
 
-// Whether all words from `from` on are zero: one look at all of them joined, without a branch for each. Behind a full
-// table's mappings there are none.
+// Whether the words are zero, by one look at all of them joined, without a branch for each. Turns of 128 words read memory
+// the quickest.
+fn all_zero(words: &[u64]) -> bool
+    ensures { (result ≡ true → ZeroFrom words.now 0) × (ZeroFrom words.now 0 → result ≡ true) }
+{
+    let (turns, behind) = words.as_chunks::<128>();
+    let mut all = [0; 4];
+    for turn in turns {
+        all = join_fours(all, turn);
+    }
+    all = join_fours(all, behind);
+    let rest = joined(behind.as_chunks::<4>().1);
+    (all[0] | all[1] | all[2] | all[3] | rest) == 0
+}
+
+// Whether all words from `from` on are zero. Behind a full table's mappings there are none.
 pub fn are_zero_from(t: &[u64], from: usize) -> bool
     requires { from ≤ length t.now }
     ensures { (result ≡ true → ZeroFrom t.now from) × (ZeroFrom t.now from → result ≡ true) }
 {
-    if from == t.len() {
-        return true;
-    }
-    let turns = (t.len() - from) / 128;
-    let most = join_turns(none_joined(), t, from, turns);
-    let at = from + 128 * turns;
-    let fours = (t.len() - at) / 4;
-    let all = join_fours(most, t, at, fours);
-    let rest = joined_from(t, at + 4 * fours);
-    (all.first | all.second | all.third | all.fourth | rest) == 0
+    from == t.len() || all_zero(&t[from..])
 }

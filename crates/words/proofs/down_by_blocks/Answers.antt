@@ -20,8 +20,3 @@ loop-i-preserved g c =
       search rules,
       c.copy_block.ensures ∙ rw (l.invariant.1, e) (moved_down a.t.now a.from a.to (n * l.i) n (omega arith) (omega arith)),
     )
-
-pub returns : goal.returns
-returns g c =
-    let e : c.loop-i.i ≡ c.args.blocks = omega arith in
-    c.loop-i.invariant.1 ∙ rw e
