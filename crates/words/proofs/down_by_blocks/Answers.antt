@@ -8,7 +8,7 @@ use Rattle.words.proofs.down_by_blocks.Goals as goal
 pub loop-i-init : goal.loop-i-init
 loop-i-init g c =
     let e : g.row.N * 0 ≡ 0 = omega arith in
-    (search rules, rw e (sym (moved_none c.args.t.now c.args.from c.args.to)))
+    rw e (sym (moved_none c.args.t.now c.args.from c.args.to))
 
 pub loop-i-preserved : goal.loop-i-preserved
 loop-i-preserved g c =
@@ -16,7 +16,5 @@ loop-i-preserved g c =
     let l = c.loop-i in
     let n = g.row.N in
     let e : n * (l.i + 1) ≡ n * l.i + n = grind arith in
-    let h : n * (l.i + 1) ≤ n * a.blocks = search rules in (
-      search rules,
-      c.copy_block.ensures ∙ rw (l.invariant.1, e) (moved_down a.t.now a.from a.to (n * l.i) n (omega arith) (omega arith)),
-    )
+    let h : n * (l.i + 1) ≤ n * a.blocks = search rules in
+    c.copy_block.ensures ∙ rw (l.invariant, e) (moved_down a.t.now a.from a.to (n * l.i) n (omega arith) (omega arith))
