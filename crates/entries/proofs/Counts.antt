@@ -4,7 +4,7 @@ use mathlib.Core.Path.{◌≡◌, refl, sym, ap, subst, ◌∙◌}
 use mathlib.Core.Logic.{◌⊎◌, inl, inr}
 use mathlib.Core.Bool.{Bool, true, false, ◌&&◌}
 use mathlib.Core.List.{◌∷◌, ◌++◌}
-use Prim.Native.Nat.{ℕ, ◌+◌, ◌*◌, ◌/◌, ◌<◌}
+use Prim.Native.Nat.{ℕ, ◌+◌, ◌*◌, ◌/◌, ◌≤◌, ◌<◌}
 use native.Mathlib.Nat.{div-eq_of_lt}
 use native.Mathlib.Omega.{arith}
 use lib.Dec.{leb, ltb}
@@ -30,9 +30,9 @@ use Rattle.entries.proofs.Sizes.{size_some, ladder_at, least_at, none_below, nex
 base_of : (s : PageSize) (m : Mapping) → Listable m → Base (least (bytes_of s) (sizes_below s)) m
 base_of s m k = subst (λ (z : ℕ). Base z m) (sym (least_at s)) (base 4096 m (k.multiples.0, (k.multiples.1, (k.multiples.2, tt))))
 
-pub cover-least : (s : PageSize) (m : Mapping) → size_below s ≡ None → paged (bytes_of s) m ≡ cover_to s m
+pub cover_least : (s : PageSize) (m : Mapping) → size_below s ≡ None → paged (bytes_of s) m ≡ cover_to s m
 unfolding cover_to cover
-cover-least s m e = rw (none_below s e)
+cover_least s m e = rw (none_below s e)
 
 -- ── a mapping that may have a page of a size: it is cut ──
 
@@ -77,16 +77,16 @@ module _ (s t : PageSize) (m : Mapping) (next : size_below s ≡ Some t) where
       let l : Ladder (bytes_of s) (bytes_of t ∷ sizes_below t) = subst (Ladder (bytes_of s)) n (ladder_at s) in
       rw n (sym (cover_small (bytes_of s) (bytes_of t) (sizes_below t) m l (base_of t m k) h))
 
-  pub cover-below : Listable m → MayHave s m false → cover_to t m ≡ cover_to s m
-  cover-below k e = go (neither (leb (bytes_of s) m.size) (congruent (bytes_of s) m) e)
+  pub cover_below : Listable m → MayHave s m false → cover_to t m ≡ cover_to s m
+  cover_below k e = go (neither (leb (bytes_of s) m.size) (congruent (bytes_of s) m) e)
     where
       go : (leb (bytes_of s) m.size ≡ false) ⊎ (congruent (bytes_of s) m ≡ false) → cover_to t m ≡ cover_to s m
       go (inl h) = cover-smaller k (leb-false _ _ h)
       go (inr h) = cover-apart h
 
 -- so it is as well to begin at the largest size that has one
-pub cover-largest_in : (m : Mapping) → Listable m → cover_to (largest_in m.size) m ≡ cover_to Page1G m
-cover-largest_in m k = go (ltb m.size 2097152) (ltb m.size 1073741824) refl refl
+pub cover_largest_in : (m : Mapping) → Listable m → cover_to (largest_in m.size) m ≡ cover_to Page1G m
+cover_largest_in m k = go (ltb m.size 2097152) (ltb m.size 1073741824) refl refl
   where
     go : (t u : Bool) → ltb m.size 2097152 ≡ t → ltb m.size 1073741824 ≡ u
         → cover_to (choose t Page4K (choose u Page2M Page1G)) m ≡ cover_to Page1G m
@@ -98,9 +98,9 @@ cover-largest_in m k = go (ltb m.size 2097152) (ltb m.size 1073741824) refl refl
 
 -- ── the number of entries ──
 
-pub count-cover : (s : PageSize) (m : Mapping) → count_to s m ≡ length (cover_to s m)
+pub count_cover : (s : PageSize) (m : Mapping) → count_to s m ≡ length (cover_to s m)
 unfolding count_to cover_to
-count-cover s m = count-length (bytes_of s) (sizes_below s) m
+count_cover s m = count-length (bytes_of s) (sizes_below s) m
 
 module _ (s : PageSize) (m : Mapping) where
   pub whole_some : MayHave s m true → (middle (bytes_of s) m).size / bytes_of s ≡ whole_pages s m
@@ -129,10 +129,13 @@ module _ (s : PageSize) (m : Mapping) where
       go (inr h) = rw h
 
 -- a page of 2 MiB stands for 512 of 4 KiB, and one of 1 GiB for 512 of 2 MiB
-pub count-whole : (m : Mapping) → Listable m → count_to Page1G m + 511 * (whole_pages Page2M m + whole_pages Page1G m) ≡ m.size / 4096
+pub count_whole : (m : Mapping) → Listable m → count_to Page1G m + 511 * (whole_pages Page2M m + whole_pages Page1G m) ≡ m.size / 4096
 unfolding count_to whole_pages entry_count
-count-whole m k = omega (
+count_whole m k = omega (
   arith,
   count_less 2097152 4096 (sizes_below Page4K) m (ladder_at Page2M) (base_of Page4K m k),
   count_less 1073741824 2097152 (sizes_below Page2M) m (ladder_at Page1G) (base_of Page2M m k),
 )
+
+pub count_most : (m : Mapping) → Listable m → 511 * (whole_pages Page2M m + whole_pages Page1G m) ≤ m.size / 4096
+count_most m k = omega (arith, count_whole m k)

@@ -19,7 +19,7 @@ use Rattle.pages.proofs.Counts.{length_entry_words}
 use Rattle.words.specs.Words.{stored}
 use Rattle.entries.specs.declared.PageSize.TheVariants.{Page1G}
 use Rattle.entries.specs.Sizes.{cover_to, count_to, Listable, Wrote}
-use Rattle.entries.proofs.Counts.{count-cover}
+use Rattle.entries.proofs.Counts.{count_cover}
 
 -- the table's test also asks for a start at 0 or behind
 fits_alone : (m : Mapping) → all (fit_tests whole_space 0 m) ≡ all (mapping_tests whole_space m)
@@ -66,7 +66,7 @@ module _ (m : Mapping) (ws : List ℕ) where
           (λ i. record { answer = answered (sym counted i); words = same i })
         where
           lengths : entry_count largest smaller m ≡ length (cover_to Page1G m)
-          lengths = sym counted ∙ c ∙ count-cover Page1G m
+          lengths = sym counted ∙ c ∙ count_cover Page1G m
 
           same : flat_map entry_words (entries m) ++ drop (3 * entry_count largest smaller m) ws ≡ after
           same =

@@ -54,6 +54,7 @@ impl PageSize {
     }
 
     // How many bits of an address lie inside a page: what is divided by the size is shifted by them.
+    #[tactic(auto, using(crate::proofs::Sizes::size_bits))]
     fn bits(self) -> u32
         ensures few { result ≤ 30 }
         ensures power { 2 ^ result ≡ bytes_of self }
@@ -151,6 +152,7 @@ impl Part {
     }
 
     // How many whole pages of this size it has.
+    #[tactic(auto, using(crate::proofs::Counts::whole_some, crate::proofs::Counts::whole_none))]
     fn whole_pages(&self, size: PageSize) -> u64
         ensures { result ≡ whole_pages size self.now.mapping }
     {
@@ -162,6 +164,7 @@ impl Part {
 
     // The whole pages between the cuts and the remainders on both sides, which are for the size below; or none, where all of
     // it is for the size below.
+    #[tactic(auto, using(crate::proofs::Counts::cover_below))]
     fn cut(&self, size: PageSize, below: PageSize) -> Option<Cut>
         requires { size_below size ≡ Some below }
         ensures { MatchOption result (cover_to below self.now.mapping ≡ cover_to size self.now.mapping) (λ c. Pieces size below self.now.mapping c.lower.mapping c.middle.mapping c.upper.mapping) }
@@ -180,6 +183,7 @@ impl Part {
 
     // How many entries it has: as many as pages of 4 KiB, but one for each 512 of them in a page of 2 MiB, and one for
     // each 512 of these in a page of 1 GiB.
+    #[tactic(auto, using(crate::proofs::Counts::count_whole, crate::proofs::Counts::count_most))]
     fn entry_count(&self) -> u64
         ensures { result ≡ count_to PageSize.Page1G self.now.mapping }
     {
@@ -205,6 +209,7 @@ impl Part {
 
     // Writes its entries in pages of this size and of those below it, from the front of `out` on, and answers how many
     // words these are.
+    #[tactic(auto, using(crate::proofs::Counts::cover_least))]
     fn write(&self, size: PageSize, out: &mut [u64]) -> usize
         requires { 3 * length (cover_to size self.now.mapping) ≤ length out.old }
         ensures { Wrote out.old out.new 0 result (cover_to size self.now.mapping) }

@@ -3,7 +3,7 @@ use native.Mathlib.Omega.{arith}
 use lib.ListN.{length}
 use Rattle.entries.specs.declared.PageSize.TheVariants.{Page1G}
 use Rattle.entries.specs.Sizes.{cover_to, Wrote}
-use Rattle.entries.proofs.Counts.{cover-largest_in, count-cover, count-whole}
+use Rattle.entries.proofs.Counts.{cover_largest_in, count_cover, count_whole}
 use Rattle.entries.proofs.Listing.{broken, listable, too_short, listed}
 use Rattle.entries.proofs.page_entries.Goals as goal
 
@@ -14,7 +14,7 @@ pub overflow_mul-count : goal.overflow_mul-count
 overflow_mul-count c =
     let a = c.args in
     let k = listable a.m a.out.now (sym c.mapping_fits.ensures ∙ c.if-not-mapping_fits.false) in
-    omega (arith, c.entry_count-count.ensures, count-whole a.m k, k.end_most)
+    omega (arith, c.entry_count-count.ensures, count_whole a.m k, k.end_most)
 
 pub returns-then-out-count : goal.returns-then-out-count
 returns-then-out-count c =
@@ -25,12 +25,12 @@ pub write-requires : goal.write-requires
 write-requires c =
     let a = c.args in
     let k = listable a.m a.out.now (sym c.mapping_fits.ensures ∙ c.if-not-mapping_fits.false) in
-    let same = ap (λ s. cover_to s a.m) c.largest_in.ensures ∙ cover-largest_in a.m k in
-    omega (arith, ap length same, c.entry_count-count.ensures, count-cover Page1G a.m, c.if-out-count.false)
+    let same = ap (λ s. cover_to s a.m) c.largest_in.ensures ∙ cover_largest_in a.m k in
+    omega (arith, ap length same, c.entry_count-count.ensures, count_cover Page1G a.m, c.if-out-count.false)
 
 pub returns : goal.returns
 returns c =
     let a = c.args in
     let f = sym c.mapping_fits.ensures ∙ c.if-not-mapping_fits.false in
-    let same = ap (λ s. cover_to s a.m) c.largest_in.ensures ∙ cover-largest_in a.m (listable a.m a.out.now f) in
+    let same = ap (λ s. cover_to s a.m) c.largest_in.ensures ∙ cover_largest_in a.m (listable a.m a.out.now f) in
     listed a.m a.out.now f c.entry_count-count.ensures c.if-out-count.false (subst (Wrote a.out.now _ 0 _) same c.write.ensures)

@@ -1,13 +1,8 @@
 use mathlib.Core.Path.{sym, ap, ap₂, ◌∙◌}
 use Prim.Native.Nat.{ℕ}
 use Rattle.pages.specs.Pages.{part}
-use Rattle.entries.proofs.Counts.{pieces, cover-below}
+use Rattle.entries.proofs.Counts.{pieces, cover_below}
 use Rattle.entries.proofs.Part.cut.Goals as goal
-
-pub returns-then-not-may_have : goal.returns-then-not-may_have
-returns-then-not-may_have c =
-    let p = c.args.self.now in
-    cover-below c.args.size _ p.mapping c.requires p.listable (sym c.may_have.ensures ∙ c.if-not-may_have.true)
 
 pub returns : goal.returns
 returns c =
