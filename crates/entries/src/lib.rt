@@ -236,6 +236,7 @@ const WHOLE_SPACE: Space = Space {
 
 // Lists the page entries of a mapping, three words each, as few as can be: how many; or 5 for a mapping that breaks its own
 // rules, 16 for a slice too short for the whole list, and then no word changes.
+#[tactic(auto, using(crate::proofs::Listing::broken, crate::proofs::Listing::too_short, crate::proofs::Listing::count_fits, crate::proofs::Listing::length_listed))]
 pub fn page_entries(m: Mapping, out: &mut [u64]) -> Result<usize, Refusal>
     ensures { page_entries m out.old ≡ record { answer = reply_of result; words = out.new } }
 {

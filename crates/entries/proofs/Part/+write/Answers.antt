@@ -1,8 +1,6 @@
-use mathlib.Core.Path.{sym, ap, subst, ◌∙◌}
+use mathlib.Core.Path.{subst}
 use native.Mathlib.Omega.{arith}
-use lib.ListN.{length}
 use Rattle.entries.specs.Sizes.{Wrote}
-use Rattle.entries.proofs.Counts.{cover_least}
 use Rattle.entries.proofs.Written.{wrote_behind, wrote_left}
 use Rattle.entries.proofs.Part.+write.Goals as goal
 

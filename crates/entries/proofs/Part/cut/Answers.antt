@@ -1,7 +1,7 @@
 use mathlib.Core.Path.{sym, ap, ap₂, ◌∙◌}
 use Prim.Native.Nat.{ℕ}
 use Rattle.pages.specs.Pages.{part}
-use Rattle.entries.proofs.Counts.{pieces, cover_below}
+use Rattle.entries.proofs.Counts.{pieces}
 use Rattle.entries.proofs.Part.cut.Goals as goal
 
 pub returns : goal.returns
