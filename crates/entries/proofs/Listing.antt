@@ -1,19 +1,17 @@
 -- What the listing of page entries answers, by its tests.
 -- Assumes nothing.
 use mathlib.Core.Path.{◌≡◌, sym, ap, ◌∙◌}
-use mathlib.Core.Bool.{Bool, true, false, not}
+use mathlib.Core.Bool.{true, false}
 use mathlib.Core.List.{List, ◌++◌, flat_map}
 use Prim.Native.Nat.{ℕ, ◌+◌, ◌*◌, ◌≤◌, ◌<◌}
 use native.Mathlib.Omega.{arith}
 use lib.ListN.{length, drop}
 use borrow.Author.Tests.{le-leb, lt-leb}
 use Rattle.model.specs.declared.Mapping.{Mapping}
-use Rattle.model.specs.declared.Space.{Space}
 use Rattle.model.specs.Rows.{all, refused, answered, decide}
 use Rattle.model.specs.Rules.{limit, mapping_tests}
 use Rattle.model.specs.Table.{fit_tests}
 use Rattle.model.proofs.Tests.{tests, all_facts, all_same}
-use Rattle.rules.proofs.Laws.{held, failed}
 use Rattle.pages.specs.Pages.{largest, smaller, entry_count, entries, entry_words, whole_space, page_rows, page_entries}
 use Rattle.pages.proofs.Counts.{length_entry_words}
 use Rattle.words.specs.Words.{stored}

@@ -6,7 +6,7 @@ use Prim.Native.Nat.{ℕ, zero, suc, ◌+◌, ◌-◌, ◌*◌, ◌≤◌}
 use native.Mathlib.Omega.{arith}
 use borrow.Rule.Slice.PartMut.{put_mid}
 use lib.ListN.{length, length-append, length-drop, take, drop, drop_of_length-le}
-use lib.Seq.{take_all, length-take-le}
+use lib.Seq.{take_all}
 use Rattle.model.proofs.Operations.{flat_map-append}
 use Rattle.pages.specs.declared.Entry.{Entry}
 use Rattle.pages.specs.Pages.{entries_from, entry_words}
@@ -30,9 +30,6 @@ module _ {before after : List ℕ} {place behind : ℕ} where
   }
 
 -- ── in the part of a slice that is left from a place on ──
-
-pub length_left : (ws : List ℕ) (at : ℕ) → length (take (length ws - at) (drop at ws)) ≡ length ws - at
-length_left ws at = length-take-le (length ws - at) (drop at ws) (omega (arith, length-drop at ws))
 
 pub wrote_left : {ws left : List ℕ} {at n : ℕ} {es : List Entry} → Wrote (take (length ws - at) (drop at ws)) left 0 n es
     → Wrote ws (put_mid at (length ws - at) ws left) at (at + n) es

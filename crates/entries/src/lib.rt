@@ -199,6 +199,7 @@ impl Part {
         let m = self.mapping;
         let bytes = size.bytes();
         let count = size.pages_in(m.size) as usize;
+        // By place: tried over chunks_exact_mut, after which a proof knows the slice's length alone.
         for i in 0..count {
             let behind = i as u64 * bytes;
             let entry = [m.address + behind, m.offset + behind, bytes];
