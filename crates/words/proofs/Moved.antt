@@ -3,12 +3,12 @@
 use mathlib.Core.Path.{◌≡◌, refl, ◌∙◌}
 use mathlib.Core.List.{List, append-nil}
 use borrow.Rule.Slice.PartMut.{mid_of, put_mid}
-use Prim.Native.Nat.{ℕ, ◌+◌, ◌-◌, ◌≤◌, ◌<◌}
+use Prim.Native.Nat.{ℕ, ◌+◌, ◌-◌, ◌≤◌}
 use native.Mathlib.Omega.{arith}
-use lib.ListN.{length, get_or, set, take, drop, length-drop, take-append-drop, drop_of_length-le}
-use lib.Seq.{length-take-le, take-add, take_all, drop-drop, get_or-drop}
+use lib.ListN.{length, take, drop, length-drop, take-append-drop, drop_of_length-le}
+use lib.Seq.{length-take-le, take-add, take_all, drop-drop}
 use Rattle.words.specs.Words.{stored, moved}
-use Rattle.words.proofs.Stored.{drop-stored, part-stored, stored_none, stored-part, stored_next, stored-behind, stored_before}
+use Rattle.words.proofs.Stored.{drop-stored, stored_none, stored-part, stored-behind}
 
 pub length_part : (ws : List ℕ) (from n : ℕ) → from + n ≤ length ws → length (take n (drop from ws)) ≡ n
 length_part ws from n h = length-take-le n (drop from ws) (simp length-drop (omega arith))
@@ -27,18 +27,6 @@ pub moved_none : (ws : List ℕ) (from to : ℕ) → moved ws from to 0 ≡ ws
 unfolding moved
 moved_none ws from to = stored_none ws to
 
--- one word more, read before any was written
-pub moved-next : (ws : List ℕ) (from to j : ℕ) → from + j < length ws → to + j < length ws
-    → set (moved ws from to j) (to + j) (get_or ws (from + j) 0) ≡ moved ws from to (j + 1)
-unfolding moved
-moved-next ws from to j h k = rw (← get_or-drop from ws j 0) (stored_next ws to (drop from ws) j k (simp length-drop (omega arith)))
-
-pub moved_word : (ws : List ℕ) (from to : ℕ) → from < length ws → to < length ws → set ws to (get_or ws from 0) ≡ moved ws from to 1
-moved_word ws from to h k =
-    let e : from + 0 ≡ from = omega arith in
-    let d : to + 0 ≡ to = omega arith in
-    rw (moved_none ws from to, e, d) at (moved-next ws from to 0 (omega arith) (omega arith))
-
 -- downwards the words that come next stand behind what was written
 pub moved_down : (ws : List ℕ) (from to j k : ℕ) → to ≤ from → from + j + k ≤ length ws
     → moved (moved ws from to j) (from + j) (to + j) k ≡ moved ws from to (j + k)
@@ -53,18 +41,6 @@ moved_down ws from to j k h r =
 pub moved_more_down : (ws a b : List ℕ) (from to j k at end : ℕ) → to ≤ from → from + end ≤ length ws → j ≡ at → at + k ≡ end
     → a ≡ moved ws from to j → b ≡ moved a (from + at) (to + at) k → b ≡ moved ws from to end
 moved_more_down ws a b from to j k at end h r p q e f = f ∙ rw (e, ← q, ← p) (moved_down ws from to j k h (omega arith))
-
--- upwards they stand before it
-pub moved_up : (ws : List ℕ) (from to j k : ℕ) → from ≤ to → to + k + j ≤ length ws
-    → moved (moved ws (from + k) (to + k) j) from to k ≡ moved ws from to (k + j)
-unfolding moved
-moved_up ws from to j k h r =
-    let xs : List ℕ = take j (drop (from + k) ws) in
-    let ys : List ℕ = take k (drop from ws) in
-    let l : length xs ≡ j = length_part ws (from + k) j (omega arith) in
-    let m : length ys ≡ k = length_part ws from k (omega arith) in
-    let b = stored_before ws to xs ys (omega arith) in
-    rw (part-stored ws (to + k) xs from k (omega arith) (omega arith), take-add k j (drop from ws), drop-drop k from ws) (rw m at b)
 
 -- in the part that is lent from a place on
 pub moved-part : (ws : List ℕ) (at from to n : ℕ) {part : List ℕ} → at ≤ length ws → part ≡ moved (mid_of at (length ws - at) ws) from to n

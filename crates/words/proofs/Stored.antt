@@ -1,13 +1,12 @@
 -- Laws of a run that is stored over the words of a list.
 -- Assumes nothing.
 use mathlib.Core.Path.{◌≡◌, refl, sym, ap, ◌∙◌}
-use mathlib.Core.List.{List, [], ◌∷◌, ◌++◌, append_assoc, append-nil}
-use Prim.Native.Nat.{ℕ, ◌+◌, ◌-◌, ◌≤◌, ◌<◌}
-use native.Mathlib.Numerals.{add-one}
+use mathlib.Core.List.{List, [], ◌++◌, append_assoc, append-nil}
+use Prim.Native.Nat.{ℕ, ◌+◌, ◌-◌, ◌≤◌}
 use native.Mathlib.Omega.{arith}
-use lib.ListN.{length, get_or, set, take, drop, replicate, take-append-drop, drop_of_length-le}
+use lib.ListN.{length, take, drop, replicate, take-append-drop, drop_of_length-le}
 use lib.ListN.{length-append, length-drop, length-replicate, replicate-append-replicate}
-use lib.Seq.{length-take-le, take-append-le, take-take, take_at, take-add, take-suc, drop_at, drop-drop, sets, sets-eq}
+use lib.Seq.{length-take-le, take-append-le, take-take, take_at, take-add, drop_at, drop-drop}
 use Rattle.words.specs.Words.{stored, cleared}
 
 -- lists that agree from place i on agree from any later one on
@@ -23,11 +22,6 @@ module _ (ws : List ℕ) (at : ℕ) (run : List ℕ) where
   pub stored_is : stored ws at run ≡ take at ws ++ (run ++ drop (at + length run) ws)
   unfolding stored
   stored_is = refl
-
-  -- the same as stores of its words one by one
-  pub sets_stored : at + length run ≤ length ws → sets ws at run ≡ stored ws at run
-  unfolding stored
-  sets_stored h = sets-eq run ws at h ∙ append_assoc (take at ws) run _
 
   pub length-stored : at + length run ≤ length ws → length (stored ws at run) ≡ length ws
   unfolding stored
@@ -59,20 +53,9 @@ module _ (ws : List ℕ) (at : ℕ) (run : List ℕ) where
       drop_later (stored ws at run) ws (at + length run) n h
       (sym (drop-drop (length run) at (stored ws at run)) ∙ rw (drop-stored-start k) (drop_at run (drop (at + length run) ws) (length run) refl))
 
-  -- a part before it
-  pub part-stored : (from n : ℕ) → from + n ≤ at → at + length run ≤ length ws → take n (drop from (stored ws at run)) ≡ take n (drop from ws)
-  part-stored from n h k =
-      let l : length (stored ws at run) ≡ length ws = length-stored k in
-      sym (drop-take from n (stored ws at run) (omega arith))
-      ∙ ap (drop from) (take-stored (from + n) h (omega arith))
-      ∙ drop-take from n ws (omega arith)
-
 pub stored_none : (ws : List ℕ) (at : ℕ) → stored ws at [] ≡ ws
 unfolding stored
 stored_none ws at = let e : at + 0 ≡ at = omega arith in rw e (take-append-drop at ws)
-
-pub set-stored : (ws : List ℕ) (at v : ℕ) → at < length ws → set ws at v ≡ stored ws at (v ∷ [])
-set-stored ws at v h = sets_stored ws at (v ∷ []) (omega arith)
 
 -- a run stored in the words from a place on
 pub stored-part : (ws : List ℕ) (at to : ℕ) (run : List ℕ) → take at ws ++ stored (drop at ws) to run ≡ stored ws (at + to) run
@@ -103,20 +86,6 @@ stored_before ws at run first h =
       stored_is ws at (first ++ run),
     )
     (simp append_assoc)
-
--- ── a run that grows by a word ──
-
-pub stored_word : (ws : List ℕ) (at : ℕ) (run : List ℕ) (v : ℕ) → at + length run < length ws
-    → set (stored ws at run) (at + length run) v ≡ stored ws at (run ++ (v ∷ []))
-stored_word ws at run v h =
-    let l : length (stored ws at run) ≡ length ws = length-stored ws at run (omega arith) in
-    set-stored (stored ws at run) (at + length run) v (omega arith) ∙ stored-behind ws at run (v ∷ []) (omega arith)
-
-pub stored_next : (ws : List ℕ) (at : ℕ) (run : List ℕ) (j : ℕ) → at + j < length ws → j < length run
-    → set (stored ws at (take j run)) (at + j) (get_or run j 0) ≡ stored ws at (take (j + 1) run)
-stored_next ws at run j h k =
-    let l : length (take j run) ≡ j = length-take-le j run (omega arith) in
-    rw (add-one j, take-suc run j 0) (rw l at (stored_word ws at (take j run) (get_or run j 0) (omega arith)))
 
 -- zeros, and more behind them
 pub zeros_more : (ws : List ℕ) (at n m : ℕ) → at ≤ length ws
