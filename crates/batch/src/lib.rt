@@ -16,6 +16,7 @@ ghost use Rattle.batch.specs.Turns.{one, turned, committed};
 use batches::BatchRefusal;
 use change::Made;
 use model::{Grant, Refusal, Request, Space};
+use table::Table;
 
 const MOST_RECORDS: usize = 64;
 
@@ -96,7 +97,7 @@ fn turns(
     let (records, _) = records.as_chunks::<{ record::RECORD_BYTES }>();
     for (i, bytes) in records.iter().enumerate() {
         let r = record::fields(bytes);
-        place = table::first_near(table, made.count, r.address, place);
+        place = Table::new(table, made.count).first_near(r.address, place);
         let left = &mut operations[cut::OPERATION_WORDS * made.operations..];
         match turn(s, table, made.count, left, r, place) {
             Ok(next) => {

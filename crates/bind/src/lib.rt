@@ -11,6 +11,8 @@ ghost use Rattle.request.specs.Bound.{lent_words, Relistable, decided};
 ghost use Rattle.bind.specs.Asked.{numbers_of};
 
 use model::{Grant, Range, Refusal, Request, Seen, Space};
+use ranges::RangeList;
+use table::Table;
 
 // A request by its numbers: op 0 maps, op 1 unmaps, another is refused.
 #[repr(C)]
@@ -82,8 +84,8 @@ pub fn lookup(
     ensures { reply_of result ≡ lookup s (lent_words ranges.now range_count table.now count) x }
 {
     lookup_verdict(s, ranges, range_count, table, count)?;
-    let alone = table::see(s, table, count, x);
-    Ok(ranges::beside(ranges, range_count, x, alone))
+    let alone = Table::new(table, count).see(s, x);
+    Ok(RangeList::new(ranges, range_count).beside(x, alone))
 }
 
 // The range of a request.
@@ -126,7 +128,7 @@ fn remove_range(
     requires { Relistable r (lent_words ranges.old range_count table.now count) }
     ensures { (os : List ℕ) → decided removes r (lent_words ranges.old range_count table.now count) os ≡ record { answer = reply_of result; table = table.now; ranges = ranges.new; operations = os } }
 {
-    if !table::is_free(table, count, r.address, r.address + r.size) {
+    if !Table::new(table, count).is_free(r.address, r.address + r.size) {
         return Err(Refusal::NoSuchRange);
     }
     ranges::remove(ranges, range_count, range_of(r))?;

@@ -1,6 +1,6 @@
 -- Where no mapping shares a byte with the reservation, the check in a space is the check where nothing is reserved.
 -- Assumes nothing.
-use Rattle.std.proofs.Common.{◌≡◌, ℕ, zero, suc, ◌+◌, ◌*◌, ◌%◌, ◌<◌, ◌≤◌, Bool, true, false, List, [], ◌∷◌, length, get_or, sym, refl, ap, ◌∙◌, subst, arith, ltb-false}
+use Rattle.std.proofs.Common.{◌≡◌, ℕ, zero, suc, ◌+◌, ◌*◌, ◌%◌, ◌<◌, ◌≤◌, Bool, true, false, List, [], ◌∷◌, length, get_or, sym, refl, ap, ◌∙◌, arith, ltb-false}
 use Rattle.model.specs.declared.Mapping.{Mapping}
 use Rattle.model.specs.declared.Space.{Space}
 use Rattle.model.specs.Rows.{all, choose}
@@ -13,9 +13,9 @@ use Rattle.model.proofs.Store.{length-mappings}
 use Rattle.model.proofs.Chain.{Fit, fit_says}
 use Rattle.model.proofs.Table.{top}
 use Rattle.inspect.specs.Part.{up_to}
-use Rattle.table.specs.Places.{mapping_at, first_where, ends_behind, Valid}
-use Rattle.table.proofs.First.{first_most}
-use Rattle.table.proofs.Places.{at_place}
+use Rattle.table.specs.Halving.{InOrder}
+use Rattle.table.specs.Places.{first_where, ends_behind, free_tests, Valid}
+use Rattle.table.proofs.Free.{free_at}
 
 abbrev reserved_end : Space → ℕ
 reserved_end s = s.reserved.start + s.reserved.size
@@ -24,6 +24,7 @@ pub record Ends (s : Space) : Type 0 where
   pub start : s.start % page ≡ 0
   pub space : top s ≤ limit
   pub reserved : reserved_end s ≤ limit
+  pub none : s.reserved.size ≡ 0 → s.reserved.start ≡ 0
 
 pub space_ends : (s : Space) → all (space_tests s) ≡ true → Ends s
 space_ends s e = go s.reserved.size refl
@@ -32,8 +33,8 @@ space_ends s e = go s.reserved.size refl
     r = (space_says s).0 (all_facts (space_tests s) e)
 
     go : (n : ℕ) → s.reserved.size ≡ n → Ends s
-    go zero z = let h = r.no_reservation z in record { start = r.multiples.0; space = r.end_most; reserved = omega arith }
-    go (suc n) z = let h = r.reservation (omega arith) in record { start = r.multiples.0; space = r.end_most; reserved = omega (arith, h, r.end_most) }
+    go zero z = let h = r.no_reservation z in record { start = r.multiples.0; space = r.end_most; reserved = omega arith; none = λ _. h }
+    go (suc n) z = let h = r.reservation (omega arith) in record { start = r.multiples.0; space = r.end_most; reserved = omega (arith, h, r.end_most); none = λ e. absurd (omega (arith, e, z)) }
 
 -- every mapping has to start inside the space anyhow
 from_start : (s : Space) (ms : List Mapping) → bad_place s 0 ms ≡ bad_place s s.start ms
@@ -107,19 +108,19 @@ free_valid s ws n b h e =
     let l = length-mappings n ws in
     record { held = h; space = up_to (top s); top = omega (arith, b.space); kept = from_zero (up_to (top s)) s.start (mappings_in n ws) (e ∙ sym l) ∙ l }
 
--- i is the place of the first that ends behind the reservation's start
-module _ (s : Space) (ws : List ℕ) (n : ℕ) {i : ℕ} (e : i ≡ first_where (ends_behind s.reserved.start) (mappings_in n ws)) where
-  pub spared_place : i ≤ n
-  spared_place = omega (arith, e, first_most (ends_behind s.reserved.start) (mappings_in n ws), length-mappings n ws)
+-- ── by what the search tells ──
 
-  pub none_behind : i ≡ n → bad_place s 0 (mappings_in n ws) ≡ bad_place (up_to (top s)) s.start (mappings_in n ws)
-  none_behind q =
-      from_start s (mappings_in n ws)
-      ∙ spared s s.start (mappings_in n ws) (mapping_at ws i) (omega arith) (λ h. absurd (omega (arith, e, h, length-mappings n ws)))
+module _ (s : Space) (ms : List Mapping) (e : Ends s) where
+  -- nothing is reserved
+  pub unreserved : s.reserved.start ≡ reserved_end s → bad_place s 0 ms ≡ bad_place (up_to (top s)) s.start ms
+  unreserved z =
+      from_start s ms
+      ∙ spared s s.start ms (record { address = 0; size = 0; object = 0; offset = 0 }) (omega arith) (λ _. omega (arith, e.none (omega (arith, z))))
 
-  pub behind-above : {m : Mapping} → (i ≡ n → ⊥) → m ≡ mapping_at ws i → reserved_end s ≤ m.address
-      → bad_place s 0 (mappings_in n ws) ≡ bad_place (up_to (top s)) s.start (mappings_in n ws)
-  behind-above {m} q r h =
-      let p = at_place n ws i m (omega (arith, q, spared_place)) ∙ sym r in
-      from_start s (mappings_in n ws)
-      ∙ spared s s.start (mappings_in n ws) m (omega arith) (λ _. subst (λ (k : ℕ). reserved_end s ≤ (get_or (mappings_in n ws) k m).address) e (rw p h))
+  -- no mapping shares a byte with what is
+  pub kept_off : InOrder ms → s.reserved.start < reserved_end s → all (free_tests s.reserved.start (reserved_end s) ms) ≡ true
+      → bad_place s 0 ms ≡ bad_place (up_to (top s)) s.start ms
+  kept_off o h t =
+      from_start s ms
+      ∙ spared s s.start ms (record { address = 0; size = 0; object = 0; offset = 0 }) (omega arith)
+      (free_at o h (all_facts (free_tests s.reserved.start (reserved_end s) ms) t) _)

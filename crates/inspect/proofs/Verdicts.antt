@@ -15,16 +15,16 @@ module _ (s : Space) (t : Table) where
   unfolding decide
   count_refused h = simp (lt-leb t.count (capacity t) h)
 
-  module _ (p : ℕ) (h : t.count ≤ capacity t) (e : p ≡ bad_place s 0 (mappings t)) where
-    pub mapping_refused : (p ≡ t.count → ⊥) → refused 5 p ≡ verdict (content_rows s t)
+  module _ (h : t.count ≤ capacity t) where
+    pub mapping_refused : (p : ℕ) → p ≡ bad_place s 0 (mappings t) → (p ≡ t.count → ⊥) → refused 5 p ≡ verdict (content_rows s t)
     unfolding decide
-    mapping_refused n =
+    mapping_refused p e n =
         let k = ne_eqb (bad_place s 0 (mappings t)) (length (mappings t)) (λ q. n (e ∙ q ∙ length-mappings t.count t.words)) in
         simp (le-leb t.count (capacity t) h, k, e)
 
-    module _ (q : p ≡ t.count) where
+    module _ (q : bad_place s 0 (mappings t) ≡ t.count) where
       none_bad : eqb (bad_place s 0 (mappings t)) (length (mappings t)) ≡ true
-      none_bad = eq-eqb (bad_place s 0 (mappings t)) (length (mappings t)) (sym e ∙ q ∙ sym (length-mappings t.count t.words))
+      none_bad = eq-eqb (bad_place s 0 (mappings t)) (length (mappings t)) (q ∙ sym (length-mappings t.count t.words))
 
       pub stale_refused : (ZeroFrom t.words (4 * t.count) → ⊥) → refused 17 0 ≡ verdict (content_rows s t)
       unfolding decide

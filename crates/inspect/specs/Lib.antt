@@ -1,3 +1,4 @@
+pub mod Bad
 pub mod Joined
 pub mod Part
 pub mod Rows

@@ -7,78 +7,71 @@ ghost use Rattle.model.specs.Rows.{all, verdict};
 ghost use Rattle.model.specs.Rules.{page, limit, space_tests};
 ghost use Rattle.model.specs.Table.{mappings_in, bad_place, length_row, content_rows};
 ghost use Rattle.model.specs.Calls.{reply_of};
-ghost use Rattle.table.specs.Places.{lent, Valid};
+ghost use Rattle.table.specs.Places.{lent};
+ghost use Rattle.table.specs.Held.{mappings_held};
+ghost use Rattle.inspect.specs.Bad.{FirstBad};
 ghost use Rattle.inspect.specs.Joined.{Clean, Floor, Fits};
 ghost use Rattle.inspect.specs.Part.{up_to};
 ghost use Rattle.inspect.specs.Rows.{own_rows};
 
 use model::{Mapping, Refusal, Space};
+use table::Table;
 
 // Document 02: a table has room for 1 to so many mappings.
 const MOST_MAPPINGS: usize = 4096;
 
 // The words of mappings joined bit by bit, for an address the gap before it, and differences that their rules ask to be
 // from 0 up to 2^48: one look at the end tells of all of them, without a branch for each.
-#[derive(Clone, Copy)]
+#[derive(Clone, Copy, Default)]
 struct Joined {
     bits: u64,
     objects: u64,
     differences: u64,
 }
 
-fn none_joined() -> Joined
-    ensures { Clean result }
-{
-    Joined {
-        bits: 0,
-        objects: 0,
-        differences: 0,
+impl Joined {
+    // One mapping more, which is to start at `from` or behind. A difference below zero wraps to a very large number. The last
+    // one is where the mapping's last byte is in its object. Behind a `from` on a page, a gap on a page makes an address on
+    // one.
+    fn join(self, from: u64, m: Mapping) -> Joined
+        ensures { Clean result → Clean self × (Floor from → Fits from m) }
+    {
+        let last_byte = m.size.wrapping_sub(1);
+        Joined {
+            bits: self.bits | m.address.wrapping_sub(from) | m.size | m.offset,
+            objects: self.objects | m.object,
+            differences: self.differences
+                | last_byte
+                | m.object.wrapping_sub(1)
+                | m.offset.wrapping_add(last_byte),
+        }
+    }
+
+    // The mappings that were joined keep their rules if this says so. If it does not, nothing is known of a single one.
+    fn all_keep_rules(self) -> bool
+        ensures { result ≡ true → Clean self }
+    {
+        rules::is_aligned(self.bits)
+            & (self.bits <= rules::LIMIT)
+            & (self.objects <= rules::LAST_OBJECT)
+            & (self.differences < rules::LIMIT)
     }
 }
 
-// One mapping more, which is to start at `from` or behind. A difference below zero wraps to a very large number. The last
-// one is where the mapping's last byte is in its object. Behind a `from` on a page, a gap on a page makes an address on
-// one.
-fn join(j: Joined, from: u64, m: Mapping) -> Joined
-    ensures { Clean result → Clean j × (Floor from → Fits from m) }
-{
-    let last_byte = std::num::wrapping_sub_u64(m.size, 1);
-    Joined {
-        bits: j.bits | std::num::wrapping_sub_u64(m.address, from) | m.size | m.offset,
-        objects: j.objects | m.object,
-        differences: j.differences
-            | last_byte
-            | std::num::wrapping_sub_u64(m.object, 1)
-            | std::num::wrapping_add_u64(m.offset, last_byte),
-    }
-}
-
-// The mappings that were joined keep their rules if this says so. If it does not, nothing is known of a single one.
-fn all_keep_rules(j: Joined) -> bool
-    ensures { result ≡ true → Clean j }
-{
-    rules::is_aligned(j.bits)
-        & (j.bits <= rules::LIMIT)
-        & (j.objects <= rules::LAST_OBJECT)
-        & (j.differences < rules::LIMIT)
-}
-
-// The lowest place of a mapping that breaks its rules or overlaps or precedes its forerunner; `count` where none does.
-fn first_bad(s: Space, t: &[u64], count: usize) -> usize
+// The lowest place of a mapping that breaks its rules or overlaps or precedes its forerunner, if there is one.
+fn first_bad(s: Space, t: &[u64], count: usize) -> Option<usize>
     requires { (all (space_tests s) ≡ true) × (4 * count ≤ length t.now) }
-    ensures { result ≡ bad_place s 0 (mappings_in count t.now) }
+    ensures { FirstBad (bad_place s 0 (mappings_in count t.now)) count result }
 {
-    let mut place: usize = 0;
     let mut end: u64 = 0;
-    while place < count {
+    for place in 0..count {
         let m = table::read_mapping(t, place);
         if !rules::mapping_fits(s, end, m) {
-            return place;
+            return Some(place);
         }
         end = m.address + m.size;
-        place += 1;
     }
-    place
+    None
 }
 
 // All mappings keep their rules between `from` and `stop`, where nothing is reserved, if this says so: one look at their
@@ -87,42 +80,35 @@ fn all_fit(t: &[u64], count: usize, from: u64, stop: u64) -> bool
     requires { (4 * count ≤ length t.now) × (from ≤ limit) × (from % page ≡ 0) }
     ensures { result ≡ true → bad_place (up_to stop) from (mappings_in count t.now) ≡ count }
 {
-    let mut i: usize = 0;
     let mut end = from;
-    let mut seen = none_joined();
-    while i < count {
+    let mut seen = Joined::default();
+    for i in 0..count {
         let m = table::read_mapping(t, i);
-        seen = join(seen, end, m);
-        end = std::num::wrapping_add_u64(m.address, m.size);
-        i += 1;
+        seen = seen.join(end, m);
+        end = m.address.wrapping_add(m.size);
     }
-    all_keep_rules(seen) & (end <= stop) & (count <= MOST_MAPPINGS)
+    seen.all_keep_rules() & (end <= stop) & (count <= MOST_MAPPINGS)
 }
 
-// No mapping of an ascending table shares a byte with the reservation if this says so: the first that ends behind its start starts at its
-// end or behind, and so do those behind it. The reservation then makes no difference to the check.
-fn spares_reservation(s: Space, t: &[u64], count: usize) -> bool
-    requires { (all (space_tests s) ≡ true) × Valid t.now count }
-    ensures { result ≡ true → bad_place s 0 (mappings_in count t.now) ≡ bad_place (up_to (s.start + s.size)) s.start (mappings_in count t.now) }
+// No mapping of the table shares a byte with the reservation if this says so. It then makes no difference to the check.
+fn spares_reservation(s: Space, table: &Table) -> bool
+    requires { all (space_tests s) ≡ true }
+    ensures { result ≡ true → bad_place s 0 (mappings_held table.now) ≡ bad_place (up_to (s.start + s.size)) s.start (mappings_held table.now) }
 {
     let start = s.reserved.start;
     let end = start + s.reserved.size;
-    let first = table::first_ending_behind(t, count, start);
-    if first == count {
-        return true;
-    }
-    let m = table::read_mapping(t, first);
-    end <= m.address
+    start == end || table.is_free(start, end)
 }
 
 // What `first_bad` answers. A quick pass tells a table that is in order; only any other is gone through mapping by mapping.
-fn bad_place(s: Space, t: &[u64], count: usize) -> usize
+fn bad_place(s: Space, t: &[u64], count: usize) -> Option<usize>
     requires { (all (space_tests s) ≡ true) × (4 * count ≤ length t.now) }
-    ensures { result ≡ bad_place s 0 (mappings_in count t.now) }
+    ensures { FirstBad (bad_place s 0 (mappings_in count t.now)) count result }
 {
     if all_fit(t, count, s.start, s.start + s.size) {
-        if spares_reservation(s, t, count) {
-            return count;
+        let table = Table::new(t, count);
+        if spares_reservation(s, &table) {
+            return None;
         }
     }
     first_bad(s, t, count)
@@ -144,9 +130,8 @@ pub fn contents_verdict(s: Space, t: &[u64], count: usize) -> Result<(), Refusal
     if t.len() / 4 < count {
         return Err(Refusal::BadCount);
     }
-    let bad = bad_place(s, t, count);
-    if bad != count {
-        return Err(Refusal::BadMapping(bad));
+    if let Some(place) = bad_place(s, t, count) {
+        return Err(Refusal::BadMapping(place));
     }
     if !words::are_zero_from(t, 4 * count) {
         return Err(Refusal::StaleWords);

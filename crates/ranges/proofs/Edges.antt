@@ -15,11 +15,12 @@ use Rattle.model.specs.Exactly.{Each}
 use Rattle.model.specs.Lookups.{nothing}
 use Rattle.model.proofs.Tests.{tests, all_true, all_false}
 use Rattle.model.proofs.Actions.{each_map}
-use Rattle.model.proofs.Ranges.{length-ranges}
-use Rattle.ranges.specs.Lists.{range_at, first_behind, ValidList}
+use Rattle.ranges.specs.Lists.{first_behind}
+use Rattle.std.proofs.Common.{Some, slice_get}
+use Rattle.std.proofs.lemmas.Option.{slice_get_within, get_or_from_slice_get}
 use Rattle.ranges.specs.Beside.{beside_off, beside_for, beside}
-use Rattle.ranges.proofs.Places.{Spaced, at_place, valid_spaced}
-use Rattle.ranges.proofs.First.{First, none, here, later, first_is, first_ends}
+use Rattle.ranges.proofs.Places.{Spaced}
+use Rattle.ranges.proofs.First.{First, none, here, later, first_is, first_most, first_ends}
 
 -- ── a range in front of others ──
 
@@ -111,24 +112,21 @@ off_is : (ys : List Range) (x n : ℕ) {v : Shown} {e : ℕ} → Off x (x + n) y
 unfolding beside_off
 off_is ys x n o = sym (ap₂ seen o.0 (ap (λ (e : ℕ). e - x) o.1))
 
-module _ {ws : List ℕ} {count : ℕ} (v : ValidList ws count) (x n : ℕ) {i : ℕ} (e : i ≡ first_behind x (ranges_in count ws)) where
-  abbrev ys : List Range
-  ys = ranges_in count ws
-
+module _ (ys : List Range) (s : Spaced ys) (x n : ℕ) {i : ℕ} (e : i ≡ first_behind x ys) where
   first : First x ys i
   first = first_is x ys e
 
-  pub off-end : i ≡ count → nothing n ≡ beside_off ys x n
+  pub off-end : length ys ≤ i → nothing n ≡ beside_off ys x n
   off-end q =
       let m : x + n - x ≡ n = omega arith in
-      rw m at (off_is ys x n (off_none x (x + n) ys i first (q ∙ sym (length-ranges count ws))))
+      rw m at (off_is ys x n (off_none x (x + n) ys i first (omega (arith, q, first_most x ys i first))))
 
-  module _ {y : Range} (l : i < count) (r : y ≡ range_at ws i) where
+  module _ {y : Range} (r : slice_get ys i ≡ Some y) where
     there : get_or ys i y ≡ y
-    there = at_place count ws i y l ∙ sym r
+    there = get_or_from_slice_get ys i y y r
 
     inside : i < length ys
-    inside = omega (arith, length-ranges count ws)
+    inside = slice_get_within ys i y r
 
     pub ends-behind : x < range_end y
     ends-behind = subst (λ (y : Range). x < range_end y) there (first_ends x ys i y first inside)
@@ -136,13 +134,13 @@ module _ {ws : List ℕ} {count : ℕ} (v : ValidList ws count) (x n : ℕ) {i :
     pub off_next : x < y.start → {b : ℕ} → b ≡ min n (y.start - x) → seen Nothing b ≡ beside_off ys x n
     off_next h b =
         let m : min y.start (x + n) - x ≡ min n (y.start - x) = omega arith in
-        let o : Off x (x + n) ys Nothing (min y.start (x + n)) = rw there at (off_before x (x + n) ys i y first (valid_spaced v) inside (rw there h)) in
+        let o : Off x (x + n) ys Nothing (min y.start (x + n)) = rw there at (off_before x (x + n) ys i y first s inside (rw there h)) in
         ap (seen Nothing) (b ∙ sym m) ∙ off_is ys x n o
 
     pub off_here : y.start ≤ x → {b : ℕ} → b ≡ min n (range_end y - x) → seen Sparse b ≡ beside_off ys x n
     off_here h b =
         let m : min (range_end y) (x + n) - x ≡ min n (range_end y - x) = omega (arith, ends-behind) in
-        let o : Off x (x + n) ys Sparse (min (range_end y) (x + n)) = rw there at (off_in x (x + n) ys i y first (valid_spaced v) inside (rw there h)) in
+        let o : Off x (x + n) ys Sparse (min (range_end y) (x + n)) = rw there at (off_in x (x + n) ys i y first s inside (rw there h)) in
         ap (seen Sparse) (b ∙ sym m) ∙ off_is ys x n o
 
 -- an empty list changes nothing
@@ -152,5 +150,15 @@ beside_none ws count x v e = rw e (go v.shown refl)
   where
     go : (s : Shown) → v.shown ≡ s → v ≡ beside_for s [] x v
     go Nothing q = let m : v.bytes ≡ x + v.bytes - x = omega arith in λ i. record { shown = q i; bytes = m i }
+    go Sparse q = refl
+    go (Object o f) q = refl
+
+-- what a mapping or a range shows stays
+pub beside_other : (ys : List Range) (x : ℕ) (v : Seen) → (v.shown ≡ Nothing → ⊥) → v ≡ beside ys x v
+unfolding beside
+beside_other ys x v n = go v.shown refl
+  where
+    go : (s : Shown) → v.shown ≡ s → v ≡ beside_for s ys x v
+    go Nothing q = absurd (n q)
     go Sparse q = refl
     go (Object o f) q = refl

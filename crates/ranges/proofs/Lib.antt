@@ -4,6 +4,7 @@ pub mod First
 pub mod Changed
 pub mod Edges
 pub mod Found
+pub mod Kept
 pub mod Looks
 pub mod Sees
 pub mod Words

@@ -18,6 +18,8 @@ use Rattle.model.proofs.Ranges.{length-ranges, list_row_says}
 use Rattle.words.specs.Words.{ZeroFrom}
 use Rattle.table.proofs.Places.{each_at}
 use Rattle.ranges.specs.Lists.{lent_list, range_at, ValidList}
+use Rattle.std.proofs.Common.{Some, slice_get}
+use Rattle.std.proofs.lemmas.Option.{slice_get_within, get_or_from_slice_get}
 
 -- a place of the words behind the first range
 place_next : (ws : List ℕ) (i : ℕ) → range_at (drop 2 ws) i ≡ range_at ws (suc i)
@@ -69,7 +71,7 @@ module _ {ws : List ℕ} {n : ℕ} (v : ValidList ws n) where
   valid_ends = each_map (RangeRules v.space) (λ y. range_end y ≤ limit) (ranges_in n ws) (λ y r. omega (arith, r.within, v.top)) valid_rules.each_range
 
   -- no sum of a range in it is large
-  pub end-at : {y : Range} (i : ℕ) → i < n → y ≡ range_at ws i → range_end y ≤ limit
-  end-at {y} i h e =
-      let f = each_at (λ y. range_end y ≤ limit) (ranges_in n ws) i y valid_ends (omega (arith, length-ranges n ws)) in
-      subst (λ (y : Range). range_end y ≤ limit) (at_place n ws i y h ∙ sym e) f
+  pub end-there : {y : Range} (i : ℕ) → slice_get (ranges_in n ws) i ≡ Some y → range_end y ≤ limit
+  end-there {y} i e =
+      let f = each_at (λ y. range_end y ≤ limit) (ranges_in n ws) i y valid_ends (slice_get_within (ranges_in n ws) i y e) in
+      subst (λ (y : Range). range_end y ≤ limit) (get_or_from_slice_get (ranges_in n ws) i y y e) f

@@ -1,18 +1,19 @@
 // A list of sparse ranges in lent words, two words each: checked, searched by halves, and changed by one range in place.
 #![tactic(auto)]
 
-ghost use Rattle.std.specs.Prelude.{◌≡◌, true, map, ◌+◌, ◌*◌, ◌≤◌, ◌<◌, length};
+ghost use Rattle.std.specs.Prelude.{◌≡◌, true, map, ◌+◌, ◌*◌, ◌≤◌, ◌<◌, length, slice_get};
 ghost use Rattle.model.specs.Rows.{all};
 ghost use Rattle.model.specs.Rules.{limit, space_tests};
-ghost use Rattle.model.specs.Ranges.{ranges_in, list_written, range_end, list_tests, length_tests, list_row, listed};
+ghost use Rattle.model.specs.Ranges.{ranges_in, list_written, range_end, list_tests, length_tests, list_row};
 ghost use Rattle.words.specs.Words.{ZeroFrom};
-ghost use Rattle.table.specs.Halving.{binary_digits, halving};
-ghost use Rattle.ranges.specs.Lists.{lent_list, range_at, as_mapping, first_behind, ValidList};
-ghost use Rattle.ranges.specs.Changes.{outcome_of, overlap_row, put_in, taken_out, added, removed};
+ghost use Rattle.table.specs.Places.{widest};
+ghost use Rattle.ranges.specs.Lists.{lent_list, range_at, as_mapping, ValidList};
+ghost use Rattle.ranges.specs.Kept.{kept_order};
+ghost use Rattle.ranges.specs.Changes.{outcome_of, put_in, taken_out, added, removed};
 ghost use Rattle.ranges.specs.Beside.{beside_off, beside};
 
 use model::{Mapping, Range, Refusal, Seen, Shown, Space};
-use table::Search;
+use table::Rows;
 
 // Document 02: a list is of even length up to so many words.
 const MOST_WORDS: usize = 128;
@@ -41,15 +42,13 @@ fn all_fit(s: Space, list: &[u64], count: usize) -> bool
     requires { (s.start + s.size ≤ limit) × (2 * count ≤ length list.now) }
     ensures { result ≡ all (list_tests s 0 (ranges_in count list.now)) }
 {
-    let mut i: usize = 0;
     let mut end: u64 = 0;
-    while i < count {
+    for i in 0..count {
         let y = range_at(list, i);
         if !rules::range_fits(s, end, y) {
             return false;
         }
         end = y.start + y.size;
-        i += 1;
     }
     true
 }
@@ -59,16 +58,12 @@ pub fn keeps_rules(s: Space, list: &[u64], count: usize) -> bool
     requires { all (space_tests s) ≡ true }
     ensures { result ≡ all (list_row s (lent_list list.now count)).tests }
 {
-    if list.len() == 0 {
+    if list.is_empty() {
         return count == 0;
     }
-    if !length_is_right(list, count) {
-        return false;
-    }
-    if !all_fit(s, list, count) {
-        return false;
-    }
-    words::few_are_zero_from(list, 2 * count)
+    length_is_right(list, count)
+        && all_fit(s, list, count)
+        && words::few_are_zero_from(list, 2 * count)
 }
 
 // A range as the search by halves takes it: as a mapping, whose object plays no part.
@@ -78,58 +73,91 @@ fn as_mapping(y: Range) -> Mapping
     Mapping {
         address: y.start,
         size: y.size,
-        object: 0,
-        offset: 0,
+        ..Mapping::default()
     }
 }
 
-// The search by halves for the first range that ends behind `x`.
-fn halve(list: &[u64], count: usize, x: u64) -> Search
-    requires { ValidList list.now count }
-    ensures { (result ≡ halving (map as_mapping (ranges_in count list.now)) x) × (result.looks ≤ binary_digits count) }
-{
-    let mut s = Search {
-        lo: 0,
-        left: count,
-        looks: 0,
-    };
-    while 0 < s.left {
-        s = table::halved(s, as_mapping(range_at(list, table::middle(s))), x);
-    }
-    s
+// A list that passed its check: it keeps its rules in some space, and so in the widest one.
+#[derive(Clone, Copy)]
+pub struct RangeList<'a> {
+    pub words: &'a [u64],
+    pub count: usize,
+    ghost kept: { all (list_row widest (lent_list words.now count)).tests ≡ true },
 }
 
-// The place of the first range that ends behind the byte address `x`; `count` where none does.
-pub fn first_ending_behind(list: &[u64], count: usize, x: u64) -> usize
-    requires { ValidList list.now count }
-    ensures { result ≡ first_behind x (ranges_in count list.now) }
-{
-    halve(list, count, x).lo
+impl Rows for RangeList<'_> {
+    ghost rows = { λ l. map as_mapping (ranges_in l.count l.words.now) };
+
+    ghost in_order = { λ l. kept_order l.words.now l.count l.kept };
+
+    // The binary digits of 64, the most ranges that a list has.
+    const MOST_STEPS: usize = 7;
+
+    fn number(self) -> usize {
+        self.count
+    }
+
+    fn row(self, i: usize) -> Mapping {
+        as_mapping(range_at(self.words, i))
+    }
 }
 
-// No range shares a byte with `x`, where the first one that ends behind its start is at place `i`: that one starts at
-// its end or behind, and so do those behind it.
-fn is_free(list: &[u64], count: usize, i: usize, x: Range) -> bool
-    requires { ValidList list.now count × (i ≡ first_behind x.start (ranges_in count list.now)) × (0 < x.size) × (range_end x ≤ limit) }
-    ensures { result ≡ all (overlap_row x (lent_list list.now count)).tests }
-{
-    if i == count {
-        return true;
-    }
-    let y = range_at(list, i);
-    x.start + x.size <= y.start
-}
+impl<'a> RangeList<'a> {
+    ghost use Rattle.ranges.specs.Held.{ranges_held};
 
-// The range at place `i` is exactly `x`: no other can be, where it is the first one that ends behind its start.
-fn is_there(list: &[u64], count: usize, i: usize, x: Range) -> bool
-    requires { ValidList list.now count × (i ≡ first_behind x.start (ranges_in count list.now)) }
-    ensures { result ≡ listed x (ranges_in count list.now) }
-{
-    if i == count {
-        return false;
+    pub fn new(words: &'a [u64], count: usize) -> RangeList<'a>
+        requires { ValidList words.now count }
+        ensures { ranges_held result ≡ ranges_in count words.now }
+    {
+        RangeList { words, count }
     }
-    let y = range_at(list, i);
-    (x.start == y.start) & (x.size == y.size)
+
+    // The range at place `i`, if there is one.
+    fn get(&self, i: usize) -> Option<Range>
+        ensures { result ≡ slice_get (ranges_held self.now) i }
+    {
+        if i < self.count {
+            return Some(range_at(self.words, i));
+        }
+        None
+    }
+
+    // What is seen at `x` off all mappings, where these alone would let it go on for so many bytes: the first range that
+    // ends behind `x` has it or is the next one. Distances are compared, and no sum of them is made.
+    fn off_mappings(&self, x: u64, bytes: u64) -> Seen
+        ensures { result ≡ beside_off (ranges_held self.now) x bytes }
+    {
+        let i = self.first_ending_behind(x);
+        let Some(y) = self.get(i) else {
+            return Seen {
+                shown: Shown::Nothing,
+                bytes,
+            };
+        };
+        if x < y.start {
+            return Seen {
+                shown: Shown::Nothing,
+                bytes: bytes.min(y.start - x),
+            };
+        }
+        Seen {
+            shown: Shown::Sparse,
+            bytes: bytes.min(y.start + y.size - x),
+        }
+    }
+
+    // What is seen at `x` beside the list, where a table alone shows `seen`.
+    pub fn beside(&self, x: u64, seen: Seen) -> Seen
+        ensures { result ≡ beside (ranges_held self.now) x seen }
+    {
+        if self.count == 0 {
+            return seen;
+        }
+        match seen.shown {
+            Shown::Nothing => self.off_mappings(x, seen.bytes),
+            _ => seen,
+        }
+    }
 }
 
 // Puts a range in at place `i`: those from there on move up by one place.
@@ -156,8 +184,9 @@ pub fn add(list: &mut [u64], count: usize, range: Range) -> Result<(), Refusal>
     requires { ValidList list.old count × (0 < range.size) × (range_end range ≤ limit) }
     ensures { outcome_of result list.new ≡ added range (lent_list list.old count) }
 {
-    let i = first_ending_behind(list, count, range.start);
-    if !is_free(list, count, i, range) {
+    let held = RangeList::new(list, count);
+    let i = held.first_ending_behind(range.start);
+    if !held.is_free_from(i, range.start + range.size) {
         return Err(Refusal::RangeOverlaps);
     }
     if list.len() / 2 <= count {
@@ -172,52 +201,12 @@ pub fn remove(list: &mut [u64], count: usize, range: Range) -> Result<(), Refusa
     requires { ValidList list.old count }
     ensures { outcome_of result list.new ≡ removed range (lent_list list.old count) }
 {
-    let i = first_ending_behind(list, count, range.start);
-    if !is_there(list, count, i, range) {
+    let held = RangeList::new(list, count);
+    let i = held.first_ending_behind(range.start);
+    // No other range can be it.
+    if held.get(i) != Some(range) {
         return Err(Refusal::NoSuchRange);
     }
     take_out(list, count, i);
     Ok(())
-}
-
-// What is seen at `x` off all mappings, where these alone would let it go on for so many bytes: the first range that
-// ends behind `x` has it or is the next one. Distances are compared, and no sum of them is made.
-fn off_mappings(list: &[u64], count: usize, x: u64, bytes: u64) -> Seen
-    requires { ValidList list.now count }
-    ensures { result ≡ beside_off (ranges_in count list.now) x bytes }
-{
-    let i = first_ending_behind(list, count, x);
-    if i == count {
-        return Seen {
-            shown: Shown::Nothing,
-            bytes: bytes,
-        };
-    }
-    let y = range_at(list, i);
-    if x < y.start {
-        return Seen {
-            shown: Shown::Nothing,
-            bytes: rules::lesser(bytes, y.start - x),
-        };
-    }
-    Seen {
-        shown: Shown::Sparse,
-        bytes: rules::lesser(bytes, y.start + y.size - x),
-    }
-}
-
-// What is seen at `x` beside the list, where a table alone shows `seen`.
-pub fn beside(list: &[u64], count: usize, x: u64, seen: Seen) -> Seen
-    requires { ValidList list.now count }
-    ensures { result ≡ beside (ranges_in count list.now) x seen }
-{
-    if count == 0 {
-        return seen;
-    }
-    let shown = seen.shown;
-    match shown {
-        Shown::Nothing => off_mappings(list, count, x, seen.bytes),
-        Shown::Sparse => seen,
-        Shown::Object(_, _) => seen,
-    }
 }

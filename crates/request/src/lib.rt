@@ -16,6 +16,7 @@ ghost use Rattle.request.specs.Bound.{lent_words, length_rows, partly, Checked, 
 
 use change::Made;
 use model::{Grant, Refusal, Request, Space};
+use table::{Rows, Table};
 
 // Row 18.
 #[tactic(auto, unfolding(model::specs::Rows::decide))]
@@ -110,7 +111,7 @@ pub fn bind_request(
             ranges: range_count,
         });
     }
-    let place = table::first_ending_behind(table, count, r.address);
+    let place = Table::new(table, count).first_ending_behind(r.address);
     let made = change::change(r, table, count, operations, place)?;
     Ok(Grant {
         operations: made.operations,

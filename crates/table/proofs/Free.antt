@@ -6,19 +6,19 @@ use mathlib.Core.Bool.{Bool, true, false}
 use mathlib.Core.List.{List, [], ◌∷◌}
 use Prim.Native.Nat.{ℕ, suc, ◌≤◌, ◌<◌}
 use native.Mathlib.Omega.{arith}
-use native.Mathlib.Numerals.{add-one}
 use lib.Dec.{leb}
-use lib.ListN.{take, drop}
+use lib.ListN.{length, get_or, take, drop}
+use lib.Seq.{drop-cons}
+use Rattle.std.proofs.lemmas.List.{drop_all}
 use borrow.Author.Tests.{ltb-true, ltb-false, leb-true, leb-false}
 use Rattle.model.specs.declared.Mapping.{Mapping}
 use Rattle.model.specs.Rows.{all, choose}
 use Rattle.model.specs.Rules.{end}
-use Rattle.model.specs.Table.{mappings_in}
-use Rattle.model.specs.Exactly.{Each, MappingRules, Ascends}
+use Rattle.model.specs.Exactly.{Each, Ascends}
 use Rattle.model.proofs.Actions.{each_map}
 use Rattle.model.proofs.Tests.{tests, Alls, Says, all_true, all_false}
-use Rattle.table.specs.Places.{mapping_at, first_where, ends_behind, free_tests, Valid}
-use Rattle.table.proofs.Places.{from_place, from_end, valid_rules, valid_ascends}
+use Rattle.table.specs.Halving.{at, InOrder}
+use Rattle.table.specs.Places.{first_where, ends_behind, free_tests}
 
 module _ (a b : ℕ) (h : a < b) where
   -- mappings from b on
@@ -43,26 +43,25 @@ module _ (a b : ℕ) (h : a < b) where
           )
       go false e ih = let l = ltb-false a (end m) e in (λ f. ih.0 f.1, λ f. (omega tests, ih.1 f))
 
-module _ {ws : List ℕ} {n : ℕ} (v : Valid ws n) {a b : ℕ} (h : a < b) where
-  abbrev ms : List Mapping
-  ms = mappings_in n ws
-
+module _ {ms : List Mapping} (o : InOrder ms) {a b : ℕ} (h : a < b) where
   says : Says (free_tests a b ms) (Behind a b h ms)
-  says = first_free a b h ms (valid_ascends v)
-      (each_map (MappingRules v.space) (λ m. 0 < m.size) ms (λ m r. omega (arith, r.size_least)) (valid_rules v).0)
+  says = first_free a b h ms o.ascends o.not_empty
 
   -- none ends behind the range's start
-  pub free_all : {i : ℕ} → i ≡ first_where (ends_behind a) ms → i ≡ n → true ≡ all (free_tests a b ms)
+  pub free_all : {i : ℕ} → i ≡ first_where (ends_behind a) ms → length ms ≤ i → true ≡ all (free_tests a b ms)
   free_all {i} e q =
-      let none : drop (first_where (ends_behind a) ms) ms ≡ [] = ap (λ (k : ℕ). drop k ms) (sym e) ∙ from_end ws n i q in
+      let none : drop (first_where (ends_behind a) ms) ms ≡ [] = rw (sym e) (drop_all i ms q) in
       sym (all_true (free_tests a b ms) (says.1 (rw none tt)))
 
   -- the first that does decides
-  pub free_first : {m : Mapping} (i : ℕ) → i ≡ first_where (ends_behind a) ms → i < n → m ≡ mapping_at ws i → leb b m.address ≡ all (free_tests a b ms)
+  pub free_first : {m : Mapping} (i : ℕ) → i ≡ first_where (ends_behind a) ms → i < length ms → m ≡ at ms i → leb b m.address ≡ all (free_tests a b ms)
   free_first {m} i e l r =
-      let first : drop (first_where (ends_behind a) ms) ms ≡ m ∷ drop (suc i) ms = ap (λ (k : ℕ). drop k ms) (sym e) ∙ (rw add-one at (from_place ws n i m l r)) in
+      let first : drop (first_where (ends_behind a) ms) ms ≡ m ∷ drop (suc i) ms = rw (sym e) (drop-cons ms i _ l ∙ ap (λ (k : Mapping). k ∷ drop (suc i) ms) (sym r)) in
       go (leb b m.address) refl first
     where
       go : (t : Bool) → leb b m.address ≡ t → drop (first_where (ends_behind a) ms) ms ≡ m ∷ drop (suc i) ms → leb b m.address ≡ all (free_tests a b ms)
       go true q first = q ∙ sym (all_true (free_tests a b ms) (says.1 (rw first (leb-true b m.address q, tt))))
       go false q first = q ∙ sym (all_false (free_tests a b ms) (λ f. let k = rw first at (says.0 f) in omega (arith, k.0, leb-false b m.address q)))
+
+  pub free_at : Alls (free_tests a b ms) → (d : Mapping) → first_where (ends_behind a) ms < length ms → b ≤ (get_or ms (first_where (ends_behind a) ms) d).address
+  free_at t d l = (rw (drop-cons ms (first_where (ends_behind a) ms) d l) at (says.0 t)).0

@@ -7,6 +7,7 @@ pub mod Looks
 pub mod Near
 pub mod Parts
 pub mod Places
+pub mod Kept
 pub mod Sees
 pub mod Spliced
 pub mod Words

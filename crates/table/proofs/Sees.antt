@@ -19,8 +19,9 @@ use Rattle.model.specs.Lookups.{InSpace}
 use Rattle.model.proofs.Numbers.{order}
 use Rattle.model.proofs.Tests.{tests, all_facts, not_facts}
 use Rattle.model.proofs.See.{see_none, see-inside, see_before, see_outside}
-use Rattle.table.specs.Places.{mapping_at, first_where, ends_behind, seen_by, ValidIn}
-use Rattle.table.proofs.Places.{from_place, from_end, valid_rules, rules_at}
+use Rattle.table.specs.Halving.{at}
+use Rattle.table.specs.Places.{first_where, ends_behind, seen_by, ValidIn}
+use Rattle.table.proofs.Places.{at_place, from_place, from_end, valid_rules, rules_at}
 use Rattle.table.proofs.Ends.{first_sees}
 use Rattle.table.proofs.Looks.{found_ends}
 
@@ -51,11 +52,11 @@ module _ {s : Space} {ws : List ℕ} {n : ℕ} (w : ValidIn s ws n) (x : ℕ) wh
     sees_end {i} e q =
         sym (see_none s x inside) ∙ ap (λ (ks : List Mapping). see s [] (take 1 ks) x) (sym (from_end ws n i q)) ∙ sees i e
 
-    pub sees_mapping : {m : Mapping} (i : ℕ) → i ≡ first → i < n → m ≡ mapping_at ws i → seen_by m x ≡ see s [] ms x
-    sees_mapping {m} i e h r = by (order m.address x) ∙ rw (from_place ws n i m h r) at (sees i e)
+    pub sees_mapping : {m : Mapping} (i : ℕ) → i ≡ first → i < n → m ≡ at ms i → seen_by m x ≡ see s [] ms x
+    sees_mapping {m} i e h r = by (order m.address x) ∙ rw (from_place ws n i m h (r ∙ at_place n ws i _ h)) at (sees i e)
       where
         fits : MappingRules s m
-        fits = subst (λ (k : Space). MappingRules k m) w.1 (rules_at w.0 i h r)
+        fits = subst (λ (k : Space). MappingRules k m) w.1 (rules_at w.0 i h (r ∙ at_place n ws i _ h))
 
         by : (m.address ≤ x) ⊎ (x < m.address) → seen_by m x ≡ see s [] (m ∷ []) x
         by (inl l) = rw (le-ltb x m.address l) (sym (see-inside s [] m [] x inside (l, found_ends w.0 x i e h r)))

@@ -9,7 +9,7 @@ use Rattle.model.specs.declared.Space.{Space}
 use Rattle.model.specs.Cut.{see}
 use Rattle.model.specs.Exactly.{Each, Ascends}
 use Rattle.table.specs.declared.Search.{Search}
-use Rattle.table.specs.Places.{first_where, ends_behind, Valid}
+use Rattle.table.specs.Places.{first_where, ends_behind}
 
 -- how many binary digits n has: none if it is 0, else one and those of its half (k is at least their number)
 unfoldable pub digits_in : ℕ → ℕ → ℕ
@@ -59,10 +59,16 @@ pub record Halvable (s : Search) (m : Mapping) : Type 0 where
   pub few : s.looks < 64
   pub end_most : end m ≤ limit
 
--- what a step of the code asks: a table that passed its check, places in it, and looks to come
-pub record Steppable (ws : List ℕ) (count : ℕ) (s : Search) : Type 0 where
-  pub valid : Valid ws count
-  pub most : s.lo + s.left ≤ count
+-- what can be searched by halves: none is empty, ends ascend, and none is large
+pub record InOrder (ms : List Mapping) : Type 0 where
+  pub not_empty : Each (λ m. 0 < m.size) ms
+  pub ascends : Ascends ms
+  pub ends_most : Each (λ m. end m ≤ limit) ms
+
+-- what a step of the code asks: places of the rows, no sum that is large, and looks to come
+pub record Steppable (ms : List Mapping) (s : Search) : Type 0 where
+  pub most : s.lo + s.left ≤ length ms
+  pub places : s.lo + s.left < 2 ^ 64
   pub few : 0 < s.left → s.looks < 64
 
 -- ── what is claimed ──

@@ -1,3 +1,5 @@
 pub mod Halving
+pub mod Held
+pub mod Kept
 pub mod Places
 pub mod Splice

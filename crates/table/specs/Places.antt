@@ -44,6 +44,10 @@ seen_by m x = choose (ltb x m.address)
 abbrev pub free_tests : ℕ → ℕ → List Mapping → List Bool
 free_tests from to ms = map (λ m. apart m.address (end m) from to) ms
 
+-- the space that has every other, with nothing reserved
+abbrev pub widest : Space
+widest = record { start = 0; size = limit; reserved = record { start = 0; size = 0 } }
+
 -- a table that passed its check: its mappings keep their rules in some space
 pub record Valid (ws : List ℕ) (count : ℕ) : Type 0 where
   pub held : 4 * count ≤ length ws
@@ -54,3 +58,7 @@ pub record Valid (ws : List ℕ) (count : ℕ) : Type 0 where
 -- in this space
 abbrev pub ValidIn : Space → List ℕ → ℕ → Type 0
 ValidIn s ws count = (v : Valid ws count) × (v.space ≡ s)
+
+-- mappings that keep their rules in this space
+abbrev pub KeptIn : Space → List Mapping → Type 0
+KeptIn s ms = (s.start + s.size ≤ limit) × (bad_place s 0 ms ≡ length ms)

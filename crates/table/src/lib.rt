@@ -1,21 +1,20 @@
 // A table of mappings in lent words, four words each: read, searched, and spliced in place.
 #![tactic(auto)]
 
-ghost use Rattle.std.specs.Prelude.{◌≡◌, true, false, ◌+◌, ◌*◌, ◌^◌, ◌≤◌, ◌<◌, max, length, drop};
-ghost use mathlib.Core.List.{[], flat_map};
+ghost use Rattle.std.specs.Prelude.{◌≡◌, true, false, ℕ, List, [], ◌+◌, ◌*◌, ◌^◌, ◌≤◌, ◌<◌, max, length, drop};
+ghost use mathlib.Core.List.{flat_map};
 ghost use Rattle.model.specs.Rules.{limit, end};
-ghost use Rattle.model.specs.Table.{mapping_from, mappings_in, words_of, written};
+ghost use Rattle.model.specs.declared.Mapping.{Mapping};
+ghost use Rattle.model.specs.Table.{mapping_from, mappings_in, words_of, written, bad_place};
 ghost use Rattle.model.specs.Cut.{prepend, in_space_tests, see};
 ghost use Rattle.model.specs.Rows.{all};
 ghost use Rattle.words.specs.Words.{stored, cleared, ZeroFrom};
-ghost use Rattle.table.specs.Halving.{binary_digits, middle, halved, step, halving, Halvable, Steppable};
-ghost use Rattle.table.specs.Places.{mapping_at, first_where, starts_behind, ends_behind, seen_by, free_tests, Valid, ValidIn};
+ghost use Rattle.table.specs.Halving.{binary_digits, middle, halved, at, step, halving, Halvable, InOrder, Steppable};
+ghost use Rattle.table.specs.Places.{mapping_at, first_where, starts_behind, ends_behind, seen_by, free_tests, widest, Valid, KeptIn};
+ghost use Rattle.table.specs.Kept.{kept_order};
 ghost use Rattle.table.specs.Splice.{mappings_of, spliced, Splice};
 
 use model::{Mapping, Seen, Shown, Space};
-
-// The binary digits of 4,096, the most mappings that a table has.
-const MOST_STEPS: usize = 13;
 
 // What takes the place of mappings: what is left of the first below a range, the new mapping, what is left of the last above
 // it. One of size 0 is none.
@@ -24,16 +23,6 @@ pub struct Replacement {
     pub lower: Mapping,
     pub new: Mapping,
     pub upper: Mapping,
-}
-
-// A search for the first mapping that ends behind a byte address: its place is one of the `left` from `lo` on, or right behind
-// them, after `looks` looks at one mapping each. Sparse ranges are searched in the same way, each as a mapping of its
-// addresses.
-#[derive(Clone, Copy)]
-pub struct Search {
-    pub lo: usize,
-    pub left: usize,
-    pub looks: usize,
 }
 
 // The mapping in the four words from word `at` on.
@@ -82,134 +71,6 @@ pub fn first_starting_behind(t: &[u64], from: usize, count: usize, x: u64) -> us
     i
 }
 
-// The place in the middle of what is left: where the next look goes.
-pub fn middle(s: Search) -> usize
-    requires { s.lo + s.left < 2 ^ 64 }
-    ensures { result ≡ middle s }
-{
-    s.lo + s.left / 2
-}
-
-// What a look at the mapping in the middle leaves of the search for `x`. The table is not lent here: that mapping alone decides, and it is counted.
-pub fn halved(s: Search, m: Mapping, x: u64) -> Search
-    requires { Halvable s m }
-    ensures { result ≡ halved x m s }
-{
-    let half = s.left / 2;
-    let looks = s.looks + 1;
-    if x < m.address + m.size {
-        return Search {
-            lo: s.lo,
-            left: half,
-            looks: looks,
-        };
-    }
-    Search {
-        lo: s.lo + (s.left - half),
-        left: half,
-        looks: looks,
-    }
-}
-
-// One step of the search: a look at the mapping in the middle, unless nothing is left.
-fn step(t: &[u64], count: usize, s: Search, x: u64) -> Search
-    requires { Steppable t.now count s }
-    ensures { result ≡ step (mappings_in count t.now) x s }
-{
-    if s.left == 0 {
-        return s;
-    }
-    halved(s, read_mapping(t, middle(s)), x)
-}
-
-// The search for `x` by halves, which may be used since ends ascend: no more looks than `count` has binary digits. So many
-// steps are enough for the longest table. Their number is written down, so that the compiler sets them one behind the other,
-// each with a conditional move: in a loop it makes a branch of the look, and half of the time an address that nobody foresaw
-// goes the other way.
-fn halve(t: &[u64], count: usize, x: u64) -> Search
-    requires { Valid t.now count }
-    ensures { (result ≡ halving (mappings_in count t.now) x) × (result.looks ≤ binary_digits count) }
-{
-    let mut s = Search {
-        lo: 0,
-        left: count,
-        looks: 0,
-    };
-    let mut steps: usize = 0;
-    while steps < MOST_STEPS {
-        s = step(t, count, s, x);
-        steps += 1;
-    }
-    while 0 < s.left {
-        s = step(t, count, s, x);
-    }
-    s
-}
-
-// The place of the first mapping that ends behind the byte address `x`; `count` where none does.
-pub fn first_ending_behind(t: &[u64], count: usize, x: u64) -> usize
-    requires { Valid t.now count }
-    ensures { result ≡ first_where (ends_behind x) (mappings_in count t.now) }
-{
-    halve(t, count, x).lo
-}
-
-// No mapping before place `i` ends behind `x`.
-fn passes(t: &[u64], count: usize, i: usize, x: u64) -> bool
-    requires { Valid t.now count × (i ≤ count) }
-    ensures { result ≡ true → i ≤ first_where (ends_behind x) (mappings_in count t.now) }
-{
-    if i == 0 {
-        return true;
-    }
-    let m = read_mapping(t, i - 1);
-    m.address + m.size <= x
-}
-
-// The mapping at place `i` ends behind `x`, or there is none.
-fn reaches(t: &[u64], count: usize, i: usize, x: u64) -> bool
-    requires { Valid t.now count × (i ≤ count) }
-    ensures { (result ≡ true → first_where (ends_behind x) (mappings_in count t.now) ≤ i) × (result ≡ false → i < first_where (ends_behind x) (mappings_in count t.now)) }
-{
-    if i < count {
-        let m = read_mapping(t, i);
-        return x < m.address + m.size;
-    }
-    true
-}
-
-// The place of the first mapping that ends behind `x`, which may be `near` or the next one: so it mostly is for a request
-// that comes right behind another or takes it back. Else it is searched for.
-pub fn first_near(t: &[u64], count: usize, x: u64, near: usize) -> usize
-    requires { Valid t.now count }
-    ensures { result ≡ first_where (ends_behind x) (mappings_in count t.now) }
-{
-    if near < count {
-        if passes(t, count, near, x) {
-            if reaches(t, count, near, x) {
-                return near;
-            }
-            if reaches(t, count, near + 1, x) {
-                return near + 1;
-            }
-        }
-    }
-    first_ending_behind(t, count, x)
-}
-
-// No mapping shares a byte with [from, to): the first that ends behind `from`, if there is one, starts at `to` or behind.
-pub fn is_free(t: &[u64], count: usize, from: u64, to: u64) -> bool
-    requires { Valid t.now count × (from < to) }
-    ensures { result ≡ all (free_tests from to (mappings_in count t.now)) }
-{
-    let i = first_ending_behind(t, count, from);
-    if i < count {
-        let m = read_mapping(t, i);
-        return to <= m.address;
-    }
-    true
-}
-
 // What is seen at `x` by the first mapping that ends behind it, the next one where `x` is not in it.
 fn seen_by(m: Mapping, x: u64) -> Seen
     requires { (x < end m) × (end m ≤ limit) × (m.offset + m.size ≤ limit) }
@@ -235,26 +96,221 @@ fn in_space(s: Space, x: u64) -> bool
     (s.start <= x) & (x < s.start + s.size)
 }
 
-// What a look-up sees at the byte address `x` in the table alone, beside no ranges. One search: no mapping but the first
-// that ends behind `x` can have it or be the next one.
-pub fn see(s: Space, t: &[u64], count: usize, x: u64) -> Seen
-    requires { ValidIn s t.now count }
-    ensures { result ≡ see s [] (mappings_in count t.now) x }
+// A search for the first row that ends behind a byte address: its place is one of the `left` from `lo` on, or right behind
+// them, after `looks` looks at one row each. No code reads `looks`: what is claimed of a search counts by it.
+#[derive(Clone, Copy)]
+pub struct Search {
+    pub lo: usize,
+    pub left: usize,
+    pub looks: usize,
+}
+
+impl Search {
+    // The place in the middle of what is left: where the next look goes.
+    pub fn middle(self) -> usize
+        requires { self.lo + self.left < 2 ^ 64 }
+        ensures { result ≡ middle self }
+    {
+        self.lo + self.left / 2
+    }
+
+    // What a look at the row in the middle, as a mapping, leaves of the search for `x`. No other row is lent here: that one
+    // alone decides, and it is counted.
+    pub fn halved(self, m: Mapping, x: u64) -> Search
+        requires { Halvable self m }
+        ensures { result ≡ halved x m self }
+    {
+        let half = self.left / 2;
+        let looks = self.looks + 1;
+        if x < m.address + m.size {
+            return Search {
+                lo: self.lo,
+                left: half,
+                looks,
+            };
+        }
+        Search {
+            lo: self.lo + (self.left - half),
+            left: half,
+            looks,
+        }
+    }
+}
+
+// Rows in order, which are searched by halves: a table's mappings, or sparse ranges, each as a mapping of its addresses.
+pub trait Rows: Copy {
+    ghost rows: { Self → List Mapping };
+
+    // So many steps are enough for the most rows.
+    const MOST_STEPS: usize;
+
+    fn number(self) -> usize
+        ensures { result ≡ length (rows self) };
+
+    // The row at place `i`.
+    fn row(self, i: usize) -> Mapping
+        requires { i < length (rows self) }
+        ensures { result ≡ at (rows self) i };
+
+    // What each `impl` must prove.
+    ghost in_order: { (all : Self) → InOrder (rows all) };
+
+    // The place of the first row that ends behind the byte address `x`; the number of rows where none does.
+    final fn first_ending_behind(self, x: u64) -> usize
+        ensures { result ≡ first_where (ends_behind x) (rows self) }
+    {
+        halve(self, x).lo
+    }
+
+    // No row shares a byte with [from, to), where the first one that ends behind `from` is at place `first`: that one, if
+    // there is one, starts at `to` or behind, and so do those behind it.
+    final fn is_free_from(self, first: usize, to: u64) -> bool
+        ensures { (from : ℕ) → from < to → first ≡ first_where (ends_behind from) (rows self) → result ≡ all (free_tests from to (rows self)) }
+    {
+        self.number() <= first || to <= self.row(first).address
+    }
+}
+
+// One step of the search: a look at the row in the middle, unless nothing is left.
+fn step<R: Rows>(all: R, s: Search, x: u64) -> Search
+    requires { Steppable (R.rows all) s }
+    ensures { result ≡ step (R.rows all) x s }
 {
-    if !in_space(s, x) {
-        return Seen {
-            shown: Shown::Nothing,
-            bytes: 0,
-        };
+    if s.left == 0 {
+        return s;
     }
-    let i = first_ending_behind(t, count, x);
-    if i == count {
-        return Seen {
-            shown: Shown::Nothing,
-            bytes: s.start + s.size - x,
-        };
+    s.halved(all.row(s.middle()), x)
+}
+
+// The search for `x` by halves, which may be used since ends ascend: no more looks than the number of rows has binary
+// digits. The steps for the most rows are written down, so that the compiler sets them one behind the other, each with a
+// conditional move: in a loop it makes a branch of the look, and half of the time an address that nobody foresaw goes the
+// other way.
+fn halve<R: Rows>(all: R, x: u64) -> Search
+    ensures { (result ≡ halving (R.rows all) x) × (result.looks ≤ binary_digits (length (R.rows all))) }
+{
+    let mut s = Search {
+        lo: 0,
+        left: all.number(),
+        looks: 0,
+    };
+    for _ in 0..R::MOST_STEPS {
+        s = step(all, s, x);
     }
-    seen_by(read_mapping(t, i), x)
+    while 0 < s.left {
+        s = step(all, s, x);
+    }
+    s
+}
+
+// A table that passed its check: its mappings keep their rules in some space, and so in the widest one.
+#[derive(Clone, Copy)]
+pub struct Table<'a> {
+    pub words: &'a [u64],
+    pub count: usize,
+    ghost held: { 4 * count ≤ length words.now },
+    ghost kept: { bad_place widest 0 (mappings_in count words.now) ≡ count },
+}
+
+impl Rows for Table<'_> {
+    ghost rows = { λ t. mappings_in t.count t.words.now };
+
+    ghost in_order = { λ t. kept_order t.words.now t.count t.kept };
+
+    // The binary digits of 4,096, the most mappings that a table has.
+    const MOST_STEPS: usize = 13;
+
+    fn number(self) -> usize {
+        self.count
+    }
+
+    fn row(self, i: usize) -> Mapping {
+        read_mapping(self.words, i)
+    }
+}
+
+impl<'a> Table<'a> {
+    ghost use Rattle.table.specs.Held.{mappings_held};
+
+    pub fn new(words: &'a [u64], count: usize) -> Table<'a>
+        requires { Valid words.now count }
+        ensures { mappings_held result ≡ mappings_in count words.now }
+    {
+        Table { words, count }
+    }
+
+    // No mapping before place `i` ends behind `x`.
+    fn passes(&self, i: usize, x: u64) -> bool
+        requires { i ≤ self.now.count }
+        ensures { result ≡ true → i ≤ first_where (ends_behind x) (mappings_held self.now) }
+    {
+        if i == 0 {
+            return true;
+        }
+        let m = self.row(i - 1);
+        m.address + m.size <= x
+    }
+
+    // The mapping at place `i` ends behind `x`, or there is none.
+    fn reaches(&self, i: usize, x: u64) -> bool
+        requires { i ≤ self.now.count }
+        ensures { (result ≡ true → first_where (ends_behind x) (mappings_held self.now) ≤ i) × (result ≡ false → i < first_where (ends_behind x) (mappings_held self.now)) }
+    {
+        if i < self.count {
+            let m = self.row(i);
+            return x < m.address + m.size;
+        }
+        true
+    }
+
+    // The place of the first mapping that ends behind `x`, which may be `near` or the next one: so it mostly is for a request
+    // that comes right behind another or takes it back. Else it is searched for.
+    pub fn first_near(&self, x: u64, near: usize) -> usize
+        ensures { result ≡ first_where (ends_behind x) (mappings_held self.now) }
+    {
+        if near < self.count {
+            if self.passes(near, x) {
+                if self.reaches(near, x) {
+                    return near;
+                }
+                if self.reaches(near + 1, x) {
+                    return near + 1;
+                }
+            }
+        }
+        self.first_ending_behind(x)
+    }
+
+    // No mapping shares a byte with [from, to).
+    pub fn is_free(&self, from: u64, to: u64) -> bool
+        requires { from < to }
+        ensures { result ≡ all (free_tests from to (mappings_held self.now)) }
+    {
+        self.is_free_from(self.first_ending_behind(from), to)
+    }
+
+    // What a look-up sees at the byte address `x` in the table alone, beside no ranges. One search: no mapping but the first
+    // that ends behind `x` can have it or be the next one.
+    pub fn see(&self, s: Space, x: u64) -> Seen
+        requires { KeptIn s (mappings_held self.now) }
+        ensures { result ≡ see s [] (mappings_held self.now) x }
+    {
+        if !in_space(s, x) {
+            return Seen {
+                shown: Shown::Nothing,
+                bytes: 0,
+            };
+        }
+        let i = self.first_ending_behind(x);
+        let count = self.count;
+        if i == count {
+            return Seen {
+                shown: Shown::Nothing,
+                bytes: s.start + s.size - x,
+            };
+        }
+        seen_by(self.row(i), x)
+    }
 }
 
 // 1 for a mapping, 0 for none.

@@ -1,16 +1,27 @@
+use Rattle.std.proofs.Common.{List, [], ap, ◌∙◌}
+use Rattle.model.specs.declared.Mapping.{Mapping}
+use Rattle.model.specs.declared.Range.{Range}
+use Rattle.model.specs.Cut.{see}
 use Rattle.rules.proofs.Laws.{refused_on}
+use Rattle.table.proofs.Kept.{kept_in}
+use Rattle.ranges.specs.Beside.{beside}
 use Rattle.request.specs.Bound.{lent_words}
 use Rattle.request.proofs.Checked.{valid, valid_ranges}
 use Rattle.bind.proofs.Lookups.{lookup_refused, lookup-shows}
 use Rattle.bind.proofs.lookup.Goals as goal
 
+pub new-requires : goal.new-requires
+new-requires c =
+    let a = c.args in
+    (valid a.s (lent_words a.ranges.now a.range_count a.table.now a.count) c.in_ok-lookup_verdict.ensures).0
+
 pub see-alone-requires : goal.see-alone-requires
 see-alone-requires c =
     let a = c.args in
-    valid a.s (lent_words a.ranges.now a.range_count a.table.now a.count) c.in_ok-lookup_verdict.ensures
+    kept_in c.new.ensures (valid a.s (lent_words a.ranges.now a.range_count a.table.now a.count) c.in_ok-lookup_verdict.ensures)
 
-pub beside-requires : goal.beside-requires
-beside-requires c =
+pub new-requires-2 : goal.new-requires-2
+new-requires-2 c =
     let a = c.args in
     valid_ranges a.s (lent_words a.ranges.now a.range_count a.table.now a.count) c.in_ok-lookup_verdict.ensures
 
@@ -23,4 +34,6 @@ returns-in_err-lookup_verdict c =
 pub returns : goal.returns
 returns c =
     let a = c.args in
-    lookup-shows a.s (lent_words a.ranges.now a.range_count a.table.now a.count) a.x c.in_ok-lookup_verdict.ensures c.see-alone.ensures c.beside.ensures
+    lookup-shows a.s (lent_words a.ranges.now a.range_count a.table.now a.count) a.x c.in_ok-lookup_verdict.ensures 
+    (c.see-alone.ensures ∙ ap (λ (ms : List Mapping). see a.s [] ms a.x) c.new.ensures)
+    (c.beside.ensures ∙ ap (λ (ys : List Range). beside ys a.x c.see-alone.result) c.new-2.ensures)

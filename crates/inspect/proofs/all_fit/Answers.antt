@@ -1,21 +1,19 @@
 use mathlib.Core.Bool.{and-eq-true_iff}
-use Rattle.std.proofs.Common.{leb, arith, rules, leb-true}
+use Rattle.std.proofs.Common.{leb, arith, leb-true, refl}
 use Rattle.inspect.proofs.Quick.{pass_start, pass_next, pass_end}
 use Rattle.inspect.proofs.all_fit.Goals as goal
 
 pub loop-i-init : goal.loop-i-init
 loop-i-init c =
     let a = c.args in
-    (search rules, λ _ _. pass_start a.t.now a.count a.from a.stop c.requires.1 c.requires.2)
+    λ _ _. pass_start a.t.now a.count a.from a.stop c.requires.1 c.requires.2
 
 pub loop-i-preserved : goal.loop-i-preserved
-loop-i-preserved c = (
-  search rules,
-  λ few clean.
-      let both = c.join-seen.ensures clean in
-      let before = c.loop-i.invariant.1 few both.0 in
-      pass_next before few c.loop-i-test.true c.read_mapping-m.ensures both.1 c.wrapping_add_u64-end.ensures.value,
-)
+loop-i-preserved c =
+    λ few clean.
+    let both = c.join-seen.ensures clean in
+    let before = c.loop-i.invariant few both.0 in
+    pass_next before few c.loop-i-test.true c.read_mapping-m.ensures both.1 refl
 
 pub returns : goal.returns
 returns c =
@@ -25,5 +23,5 @@ returns c =
     let three = (and-eq-true_iff _ _).0 e in
     let both = (and-eq-true_iff c.all_keep_rules.result (leb done.end a.stop)).0 three.0 in
     let few = leb-true a.count _ three.1 in
-    let passed = done.invariant.1 (omega (arith, few)) (c.all_keep_rules.ensures both.0) in
+    let passed = done.invariant (omega (arith, few)) (c.all_keep_rules.ensures both.0) in
     pass_end passed (omega arith) (leb-true done.end a.stop both.1)

@@ -1,11 +1,8 @@
-use Rattle.std.proofs.Common.{◌-◌, ◌≤◌}
+use Rattle.std.proofs.Common.{◌≤◌}
 use Rattle.model.specs.Rules.{most_mappings}
 use Rattle.inspect.specs.Joined.{Clean}
 use Rattle.inspect.proofs.Quick.{Passed}
 use Rattle.inspect.proofs.all_fit.Given as goal
 
 abbrev pub invariant-loop-i : goal.invariant-loop-i
-invariant-loop-i l = (l.i ≤ l.count) × (l.count ≤ most_mappings → Clean l.seen → Passed l.t l.count l.from l.stop l.i l.end)
-
-abbrev pub decreases-loop-i : goal.decreases-loop-i
-decreases-loop-i l = l.count - l.i
+invariant-loop-i l = l.count ≤ most_mappings → Clean l.seen → Passed l.t l.count l.from l.stop l.i l.end

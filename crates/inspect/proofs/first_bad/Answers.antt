@@ -1,18 +1,16 @@
-use Rattle.std.proofs.Common.{arith, rules}
+use Rattle.std.proofs.Common.{ap, not, arith}
 use Rattle.rules.proofs.Laws.{held, failed}
 use Rattle.inspect.proofs.Fits.{fits_end}
 use Rattle.inspect.proofs.Bad.{bad_next, bad_here, bad_end}
 use Rattle.inspect.proofs.Spared.{space_ends}
-use mathlib.Core.Path.{ap}
-use mathlib.Core.Bool.{not}
 use Rattle.inspect.proofs.first_bad.Goals as goal
 
 pub loop-place-init : goal.loop-place-init
-loop-place-init c = (search rules, record { is = omega arith })
+loop-place-init c = record { is = omega arith }
 
 pub returns-then-not-mapping_fits : goal.returns-then-not-mapping_fits
 returns-then-not-mapping_fits c =
-    bad_here c.loop-place-test.true c.read_mapping-m.ensures c.loop-place.invariant.1 (failed c.mapping_fits.ensures (ap not c.if-not-mapping_fits.true))
+    (bad_here c.loop-place-test.true c.read_mapping-m.ensures c.loop-place.invariant (failed c.mapping_fits.ensures (ap not c.if-not-mapping_fits.true)), omega (arith, c.loop-place-test.true))
 
 pub overflow_add-end : goal.overflow_add-end
 overflow_add-end c =
@@ -22,7 +20,7 @@ overflow_add-end c =
 pub loop-place-preserved : goal.loop-place-preserved
 loop-place-preserved c =
     let f = held c.mapping_fits.ensures (ap not c.if-not-mapping_fits.false) in
-    (search rules, bad_next c.loop-place-test.true c.read_mapping-m.ensures c.loop-place.invariant.1 f)
+    bad_next c.loop-place-test.true c.read_mapping-m.ensures c.loop-place.invariant f
 
 pub returns : goal.returns
-returns c = bad_end (omega arith) c.loop-place.invariant.1
+returns c = let e = bad_end (omega arith) c.loop-place.invariant in omega (arith, e)

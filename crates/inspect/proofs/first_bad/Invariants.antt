@@ -1,10 +1,6 @@
-use Rattle.std.proofs.Common.{◌-◌, ◌≤◌}
 use Rattle.model.specs.Table.{mappings_in, bad_place}
 use Rattle.inspect.proofs.Bad.{BadFrom}
 use Rattle.inspect.proofs.first_bad.Given as goal
 
 abbrev pub invariant-loop-place : goal.invariant-loop-place
-invariant-loop-place l = (l.place ≤ l.count) × BadFrom l.s l.t l.count (bad_place l.s 0 (mappings_in l.count l.t)) l.place l.end
-
-abbrev pub decreases-loop-place : goal.decreases-loop-place
-decreases-loop-place l = l.count - l.place
+invariant-loop-place l = BadFrom l.s l.t l.count (bad_place l.s 0 (mappings_in l.count l.t)) l.place l.end

@@ -1,22 +1,21 @@
-use Rattle.std.proofs.Common.{arith, leb-true}
-use Rattle.inspect.proofs.Spared.{space_ends, spared_place, none_behind, behind-above}
+use Rattle.std.proofs.Common.{sym, ◌∙◌, ◌+◌, ◌<◌, arith}
+use Rattle.table.specs.Held.{mappings_held}
+use Rattle.table.specs.Kept.{kept_order}
+use Rattle.inspect.proofs.Spared.{space_ends, unreserved, kept_off}
 use Rattle.inspect.proofs.spares_reservation.Goals as goal
 
 pub overflow_add-end : goal.overflow_add-end
 overflow_add-end c =
-    omega (arith, (space_ends c.args.s c.requires.0).reserved)
+    omega (arith, (space_ends c.args.s c.requires).reserved)
 
-pub returns-then-first-count : goal.returns-then-first-count
-returns-then-first-count c =
-    let a = c.args in
-    λ _. none_behind a.s a.t.now a.count c.first_ending_behind-first.ensures c.if-first-count.true
+pub returns-then-start-end : goal.returns-then-start-end
+returns-then-start-end c =
+    let s = c.args.s in
+    λ _. unreserved s (mappings_held c.args.table.now) (space_ends s c.requires) c.if-start-end.true
 
-pub read_mapping-m-requires : goal.read_mapping-m-requires
-read_mapping-m-requires c =
-    let a = c.args in
-    omega (arith, c.requires.1.held, spared_place a.s a.t.now a.count c.first_ending_behind-first.ensures)
-
-pub returns : goal.returns
-returns c =
-    let a = c.args in
-    λ e. behind-above a.s a.t.now a.count c.first_ending_behind-first.ensures c.if-first-count.false c.read_mapping-m.ensures (leb-true _ _ e)
+pub returns-else-start-end : goal.returns-else-start-end
+returns-else-start-end c =
+    let s = c.args.s in
+    let t = c.args.table.now in
+    let some : s.reserved.start < s.reserved.start + s.reserved.size = omega (arith, c.if-start-end.false) in
+    λ e. kept_off s (mappings_held t) (space_ends s c.requires) (kept_order t.words.now t.count t.kept) some (sym c.is_free.ensures ∙ e)

@@ -1,5 +1,6 @@
-use mathlib.Core.Path.{◌∙◌}
+use mathlib.Core.Path.{◌∙◌, ap}
 use Rattle.std.proofs.lemmas.Result.{err_from_is_err_and}
+use Rattle.table.specs.Places.{first_where, ends_behind}
 use Rattle.request.specs.Bound.{lent_words}
 use Rattle.request.proofs.Bound.{some, partly_passed, partly_refused}
 use Rattle.request.proofs.Checked.{ready, checked_by}
@@ -28,8 +29,8 @@ returns-then-r-ne0 c =
     partly_passed a.s l a.operations.now a.r (some a.r.flags c.if-r-ne0.true)
     (c.in_ok-request_verdict.ensures ∙ checked_by a.s l _ a.r c.in_ok-lent_verdict.ensures)
 
-pub first_ending_behind-place-requires : goal.first_ending_behind-place-requires
-first_ending_behind-place-requires c =
+pub new-requires : goal.new-requires
+new-requires c =
     let a = c.args in
     let l = lent_words a.ranges.now a.range_count a.table.now a.count in
     (ready a.s l _ a.r (c.in_ok-request_verdict.ensures ∙ checked_by a.s l _ a.r c.in_ok-lent_verdict.ensures)).table
@@ -38,7 +39,7 @@ pub change-requires : goal.change-requires
 change-requires c =
     let a = c.args in
     let l = lent_words a.ranges.now a.range_count a.table.now a.count in
-    (ready a.s l _ a.r (c.in_ok-request_verdict.ensures ∙ checked_by a.s l _ a.r c.in_ok-lent_verdict.ensures), c.first_ending_behind-place.ensures)
+    (ready a.s l _ a.r (c.in_ok-request_verdict.ensures ∙ checked_by a.s l _ a.r c.in_ok-lent_verdict.ensures), c.first_ending_behind-place.ensures ∙ ap (first_where (ends_behind c.args.r.address)) c.new.ensures)
 
 pub returns-in_err-made : goal.returns-in_err-made
 returns-in_err-made c =

@@ -1,38 +1,35 @@
-use mathlib.Core.Path.{◌∙◌}
-use native.Mathlib.Omega.{arith}
-use Rattle.model.specs.Table.{mappings_in}
-use Rattle.table.proofs.Halving.{step_some, halved_less}
-use Rattle.table.proofs.Looks.{looks_start, looks_step, looks_steppable, looks_end, valid_order}
+use Rattle.std.proofs.Common.{ℕ, subst, sym, ◌∙◌, arith}
+use Rattle.table.specs.Halving.{whole}
+use Rattle.table.proofs.Halving.{Left, left-start, left_end, step_some, halved_less}
+use Rattle.table.proofs.Looks.{looks_step, looks_steppable}
 use Rattle.table.proofs.halve.Goals as goal
 
-pub loop-steps-init : goal.loop-steps-init
-loop-steps-init c = looks_start (valid_order c.requires) c.args.x
+pub loop-init : goal.loop-init
+loop-init g c =
+    let rows = g.R.Rows.rows c.args.all in
+    (omega (arith, c.number.ensures), subst (λ (n : ℕ). Left rows c.args.x (whole n)) (sym c.number.ensures) (left-start rows c.args.x))
 
 pub step-s-requires : goal.step-s-requires
-step-s-requires c =
-    looks_steppable c.requires c.args.x c.loop-steps.invariant (omega arith)
+step-s-requires g c = looks_steppable (g.met.R.Rows.in_order c.args.all) c.args.x c.loop.invariant.1 c.loop.invariant.0
 
-pub loop-steps-preserved : goal.loop-steps-preserved
-loop-steps-preserved c =
-    looks_step (valid_order c.requires) c.args.x c.loop-steps.invariant c.step-s.ensures
-
-pub loop-s-init : goal.loop-s-init
-loop-s-init c = c.loop-steps.invariant
+pub loop-preserved : goal.loop-preserved
+loop-preserved g c =
+    (c.loop.invariant.0, looks_step (g.met.R.Rows.in_order c.args.all) c.args.x c.loop.invariant.1 c.step-s.ensures)
 
 pub step-s-requires-in-loop-s : goal.step-s-requires-in-loop-s
-step-s-requires-in-loop-s c =
-    looks_steppable c.requires c.args.x c.loop-s.invariant (omega arith)
+step-s-requires-in-loop-s g c = looks_steppable (g.met.R.Rows.in_order c.args.all) c.args.x c.loop-s.invariant.1 c.loop-s.invariant.0
 
 pub loop-s-smaller : goal.loop-s-smaller
-loop-s-smaller c =
+loop-s-smaller g c =
     let a = c.args in
     let some = c.loop-s-test.true in
-    rw (c.step-s-in-loop-s.ensures ∙ step_some (mappings_in a.count a.t.now) a.x c.loop-s.s some) (halved_less a.x _ c.loop-s.s some)
+    rw (c.step-s-in-loop-s.ensures ∙ step_some (g.R.Rows.rows a.all) a.x c.loop-s.s some) (halved_less a.x _ c.loop-s.s some)
 
 pub loop-s-preserved : goal.loop-s-preserved
-loop-s-preserved c =
-    looks_step (valid_order c.requires) c.args.x c.loop-s.invariant c.step-s-in-loop-s.ensures
+loop-s-preserved g c =
+    (c.loop-s.invariant.0, looks_step (g.met.R.Rows.in_order c.args.all) c.args.x c.loop-s.invariant.1 c.step-s-in-loop-s.ensures)
 
 pub returns : goal.returns
-returns c =
-    looks_end (valid_order c.requires) c.args.x c.loop-s.invariant c.loop-s-test.false
+returns g c =
+    let left = c.loop-s.invariant.1 in
+    (left_end (g.R.Rows.rows c.args.all) c.args.x left c.loop-s-test.false, omega (arith, left.within.digits))
