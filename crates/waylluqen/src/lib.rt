@@ -1,21 +1,18 @@
 // The C boundary: what a C or Rust driver links. host/include/waylluqen.h declares it.
 #![tactic(auto)]
 
-ghost use Rattle.std.specs.Prelude.{◌≡◌, ◌∷◌};
-ghost use Rattle.model.specs.Rows.{refused, answered, verdict};
-ghost use Rattle.model.specs.Rules.{space_row, request_rows};
-ghost use Rattle.model.specs.Calls.{number_of, verdict_reply, answer_reply, found_reply, reply_of, space_of, bytes, check_request, bind, lookup};
+ghost use Rattle.std.specs.Prelude.{◌≡◌};
+ghost use Rattle.model.specs.Rows.{answered, verdict};
+ghost use Rattle.model.specs.Calls.{reply_of, space_of, bytes, check_rows, check_request, bind, lookup};
 ghost use Rattle.batches.specs.Batch.{bind_batch, batch_reply};
 ghost use Rattle.pages.specs.Pages.{page_entries};
 ghost use Rattle.waylluqen.specs.Words.{shown_words, translation_of, answer_of, left, batch_left, mapping_in, pages_of, pages_left};
 ghost use Rattle.request.specs.Bound.{lent_words};
 ghost use Rattle.bind.specs.Asked.{numbers_of};
 
-use batches::BatchAnswer;
+use batches::BatchRefusal;
 use bind::Numbers;
-use model::{
-    Answer, Decoded, Found, Grant, Mapping, Range, Refusal, Request, Shown, Space, Verdict,
-};
+use model::{Grant, Mapping, Range, Refusal, Seen, Shown, Space};
 
 // A space, as C hands it over.
 #[repr(C)]
@@ -27,10 +24,25 @@ pub struct SpaceWords {
     pub reserved_size: u64,
 }
 
+impl From<SpaceWords> for Space {
+    ghost from_gives = { λ w s. s ≡ space_of w.start w.size w.reserved_start w.reserved_size };
+
+    fn from(words: SpaceWords) -> Space {
+        Space {
+            start: words.start,
+            size: words.size,
+            reserved: Range {
+                start: words.reserved_start,
+                size: words.reserved_size,
+            },
+        }
+    }
+}
+
 // What a look-up answers C. Refusal 0: it is answered, `shown` is 0 where the address shows nothing, 1 where it shows an
 // object, 2 where it is sparse, and `bytes` is for how many bytes from there on that goes on in the same way.
 #[repr(C)]
-#[derive(Clone, Copy)]
+#[derive(Clone, Copy, Default)]
 pub struct Translation {
     pub refusal: u64,
     pub place: u64,
@@ -38,6 +50,45 @@ pub struct Translation {
     pub object: u64,
     pub offset: u64,
     pub bytes: u64,
+}
+
+impl From<Seen> for Translation {
+    ghost from_gives = { λ v t. t ≡ shown_words v.shown v.bytes };
+
+    fn from(seen: Seen) -> Translation {
+        let nothing = Translation {
+            bytes: seen.bytes,
+            ..Translation::default()
+        };
+        match seen.shown {
+            Shown::Nothing => nothing,
+            Shown::Sparse => Translation {
+                shown: 2,
+                ..nothing
+            },
+            Shown::Object(object, offset) => Translation {
+                shown: 1,
+                object,
+                offset,
+                ..nothing
+            },
+        }
+    }
+}
+
+impl From<Result<Seen, Refusal>> for Translation {
+    ghost from_gives = { λ a t. t ≡ translation_of (reply_of a) };
+
+    fn from(answer: Result<Seen, Refusal>) -> Translation {
+        match answer {
+            Ok(seen) => Translation::from(seen),
+            Err(refusal) => Translation {
+                refusal: u64::from(rules::refusal_number(refusal)),
+                place: rules::refusal_place(refusal) as u64,
+                ..Translation::default()
+            },
+        }
+    }
 }
 
 // What a map or unmap answers C. Refusal 0: granted. `count` and `ranges` are the counts of the table and of the list
@@ -52,41 +103,51 @@ pub struct AnswerWords {
     pub ranges: u64,
 }
 
-// The space of four numbers.
-fn space_of(start: u64, size: u64, reserved_start: u64, reserved_size: u64) -> Space
-    ensures { result ≡ space_of start size reserved_start reserved_size }
-{
-    Space {
-        start: start,
-        size: size,
-        reserved: Range {
-            start: reserved_start,
-            size: reserved_size,
-        },
+impl From<Grant> for AnswerWords {
+    ghost from_gives = { λ g a. a ≡ answer_of 0 0 (answered g) };
+
+    fn from(grant: Grant) -> AnswerWords {
+        AnswerWords {
+            refusal: 0,
+            place: 0,
+            operations: grant.operations as u64,
+            count: grant.count as u64,
+            ranges: grant.ranges as u64,
+        }
     }
 }
 
-// Rows 1 and 6 to 10.
-fn space_and_request(s: Space, r: Request) -> Verdict
-    ensures { verdict_reply result ≡ verdict (space_row s ∷ request_rows s r) }
-{
-    if !rules::space_keeps_rules(s) {
-        return Verdict::Refuse(Refusal::BadSpace);
-    }
-    rules::request_verdict(s, r)
-}
-
-// A verdict as a number: the refusal's, or 0.
-fn verdict_number(v: Verdict) -> u32
-    ensures { result ≡ number_of (verdict_reply v) }
-{
-    match v {
-        Verdict::Refuse(w) => rules::refusal_number(w),
-        Verdict::Pass => 0,
+impl AnswerWords {
+    // On a table of `count` mappings and a list of `ranges` ranges.
+    fn new(answer: Result<Grant, BatchRefusal>, count: u64, ranges: u64) -> AnswerWords
+        ensures { result ≡ answer_of count ranges (batch_reply answer) }
+    {
+        match answer {
+            Ok(grant) => AnswerWords::from(grant),
+            Err(refused) => AnswerWords {
+                refusal: u64::from(rules::refusal_number(refused.refusal)),
+                place: refused.place as u64,
+                operations: 0,
+                count,
+                ranges,
+            },
+        }
     }
 }
 
-// The first refusal of a request record in a space, among 12, 13, 14, 1, 6, 7, 8, 9, 10 in this order, or 0.
+// The first refusal of a request record in a space, among 12, 13, 14, 1, 6, 7, 8, 9 and 10.
+fn check_request(record: &[u8], space: Space) -> Result<(), Refusal>
+    ensures { reply_of result ≡ verdict (check_rows «record».now space) }
+{
+    let request = record::decode(record, rules::SPARSE)?;
+    if !rules::space_keeps_rules(space) {
+        return Err(Refusal::BadSpace);
+    }
+    rules::request_verdict(space, request)
+}
+
+// The same by its number, or 0 where nothing refuses it.
+#[tactic(auto, unfolding(model::specs::Calls::check_request))]
 #[unsafe(no_mangle)]
 pub extern "C" fn waylluqen_check_request(
     record: &[u8],
@@ -97,62 +158,15 @@ pub extern "C" fn waylluqen_check_request(
 ) -> u32
     ensures { result ≡ check_request «record».now (space_of start size reserved_start reserved_size) }
 {
-    let s = space_of(start, size, reserved_start, reserved_size);
-    match record::decode(record, rules::SPARSE) {
-        Decoded::Refuse(w) => rules::refusal_number(w),
-        Decoded::Record(r) => verdict_number(space_and_request(s, r)),
-    }
-}
-
-// What a byte address shows, and for how many bytes, in words.
-fn shown_words(shown: Shown, bytes: u64) -> Translation
-    ensures { result ≡ shown_words shown bytes }
-{
-    match shown {
-        Shown::Nothing => Translation {
-            refusal: 0,
-            place: 0,
-            shown: 0,
-            object: 0,
-            offset: 0,
-            bytes: bytes,
-        },
-        Shown::Sparse => Translation {
-            refusal: 0,
-            place: 0,
-            shown: 2,
-            object: 0,
-            offset: 0,
-            bytes: bytes,
-        },
-        Shown::Object(object, offset) => Translation {
-            refusal: 0,
-            place: 0,
-            shown: 1,
-            object: object,
-            offset: offset,
-            bytes: bytes,
-        },
-    }
-}
-
-// A look-up's answer in words.
-fn found_words(f: Found) -> Translation
-    ensures { result ≡ translation_of (found_reply f) }
-{
-    match f {
-        Found::Refused(w) => Translation {
-            refusal: rules::refusal_number(w) as u64,
-            place: rules::refusal_place(w) as u64,
-            shown: 0,
-            object: 0,
-            offset: 0,
-            bytes: 0,
-        },
-        Found::Shows(seen) => {
-            let shown = seen.shown;
-            shown_words(shown, seen.bytes)
-        }
+    let space = Space::from(SpaceWords {
+        start,
+        size,
+        reserved_start,
+        reserved_size,
+    });
+    match check_request(record, space) {
+        Ok(()) => 0,
+        Err(refusal) => rules::refusal_number(refusal),
     }
 }
 
@@ -169,63 +183,14 @@ pub extern "C" fn waylluqen_lookup(
 ) -> Translation
     ensures { result ≡ translation_of (lookup (space_of space.start space.size space.reserved_start space.reserved_size) (lent_words ranges.now range_count table.now count) address) }
 {
-    let s = space_of(
-        space.start,
-        space.size,
-        space.reserved_start,
-        space.reserved_size,
-    );
-    found_words(bind::lookup(
-        s,
+    Translation::from(bind::lookup(
+        Space::from(space),
         ranges,
         range_count as usize,
         table,
         count as usize,
         address,
     ))
-}
-
-// A refusal in words: the counts are as they were.
-fn refused_words(number: u32, place: usize, count: u64, ranges: u64) -> AnswerWords
-    ensures { result ≡ answer_of count ranges (refused number place) }
-{
-    AnswerWords {
-        refusal: number as u64,
-        place: place as u64,
-        operations: 0,
-        count: count,
-        ranges: ranges,
-    }
-}
-
-// A grant in words: the counts before the call play no part.
-fn granted_words(g: Grant) -> AnswerWords
-    ensures { result ≡ answer_of 0 0 (answered g) }
-{
-    AnswerWords {
-        refusal: 0,
-        place: 0,
-        operations: g.operations as u64,
-        count: g.count as u64,
-        ranges: g.ranges as u64,
-    }
-}
-
-// An answer in words, on a table of `count` mappings and a list of `ranges` ranges.
-fn answer_words(a: Answer, count: u64, ranges: u64) -> AnswerWords
-    ensures { result ≡ answer_of count ranges (answer_reply a) }
-{
-    match a {
-        Answer::Refused(w) => {
-            refused_words(
-                rules::refusal_number(w),
-                rules::refusal_place(w),
-                count,
-                ranges,
-            )
-        }
-        Answer::Granted(g) => granted_words(g),
-    }
 }
 
 // Maps or unmaps a range in a table of `count` mappings, by the request's numbers: the first of the refusals 13, 1 to 5, 17,
@@ -242,14 +207,8 @@ pub extern "C" fn waylluqen_bind(
 ) -> AnswerWords
     ensures { left count range_count (bind (space_of space.start space.size space.reserved_start space.reserved_size) (lent_words ranges.now range_count table.old count) operations.old (numbers_of request)) ≡ record { answer = result; table = table.new; ranges = ranges.now; operations = operations.new } }
 {
-    let s = space_of(
-        space.start,
-        space.size,
-        space.reserved_start,
-        space.reserved_size,
-    );
     let answer = bind::bind(
-        s,
+        Space::from(space),
         ranges,
         range_count as usize,
         table,
@@ -257,7 +216,7 @@ pub extern "C" fn waylluqen_bind(
         operations,
         request,
     );
-    answer_words(answer, count, range_count)
+    AnswerWords::new(answer.map_err(BatchRefusal::from), count, range_count)
 }
 
 // The same by the bytes of a record, which may have the sparse flag and then changes the list alone: the refusals 12, 13,
@@ -274,14 +233,8 @@ pub extern "C" fn waylluqen_bind_record(
 ) -> AnswerWords
     ensures { left count range_count (bind (space_of space.start space.size space.reserved_start space.reserved_size) (lent_words ranges.old range_count table.old count) operations.old (bytes «record».now)) ≡ record { answer = result; table = table.new; ranges = ranges.new; operations = operations.new } }
 {
-    let s = space_of(
-        space.start,
-        space.size,
-        space.reserved_start,
-        space.reserved_size,
-    );
     let answer = bind::bind_record(
-        s,
+        Space::from(space),
         ranges,
         range_count as usize,
         table,
@@ -289,17 +242,7 @@ pub extern "C" fn waylluqen_bind_record(
         operations,
         record,
     );
-    answer_words(answer, count, range_count)
-}
-
-// A batch's answer in words.
-fn batch_words(a: BatchAnswer, count: u64, ranges: u64) -> AnswerWords
-    ensures { result ≡ answer_of count ranges (batch_reply a) }
-{
-    match a {
-        BatchAnswer::Refused(number, place) => refused_words(number, place, count, ranges),
-        BatchAnswer::Granted(g) => granted_words(g),
-    }
+    AnswerWords::new(answer.map_err(BatchRefusal::from), count, range_count)
 }
 
 // Maps and unmaps, by 0 to 64 records in a row, all or none: the batch's own refusals 12, 1, 2, 3, 15, 4, 5, 17, 18, and then
@@ -318,14 +261,8 @@ pub extern "C" fn waylluqen_bind_batch(
 ) -> AnswerWords
     ensures { batch_left count range_count (bind_batch (space_of space.start space.size space.reserved_start space.reserved_size) (lent_words ranges.now range_count table.old count) work.old operations.old records.now) ≡ record { answer = result; table = table.new; work = work.new; operations = operations.new } }
 {
-    let s = space_of(
-        space.start,
-        space.size,
-        space.reserved_start,
-        space.reserved_size,
-    );
     let answer = batch::bind_batch(
-        s,
+        Space::from(space),
         ranges,
         range_count as usize,
         table,
@@ -334,7 +271,7 @@ pub extern "C" fn waylluqen_bind_batch(
         operations,
         records,
     );
-    batch_words(answer, count, range_count)
+    AnswerWords::new(answer, count, range_count)
 }
 
 // A mapping, as C hands it over.
@@ -347,30 +284,43 @@ pub struct MappingWords {
     pub offset: u64,
 }
 
+impl From<MappingWords> for Mapping {
+    ghost from_gives = { λ w m. m ≡ mapping_in w };
+
+    fn from(words: MappingWords) -> Mapping {
+        Mapping {
+            address: words.address,
+            size: words.size,
+            object: words.object,
+            offset: words.offset,
+        }
+    }
+}
+
 // What a listing of page entries answers C. Refusal 0: so many entries are written.
 #[repr(C)]
-#[derive(Clone, Copy)]
+#[derive(Clone, Copy, Default)]
 pub struct PagesWords {
     pub refusal: u64,
     pub place: u64,
     pub entries: u64,
 }
 
-// A listing's answer in words.
-fn pages_words(l: Result<usize, Refusal>) -> PagesWords
-    ensures { result ≡ pages_of (reply_of l) }
-{
-    match l {
-        Err(w) => PagesWords {
-            refusal: rules::refusal_number(w) as u64,
-            place: rules::refusal_place(w) as u64,
-            entries: 0,
-        },
-        Ok(n) => PagesWords {
-            refusal: 0,
-            place: 0,
-            entries: n as u64,
-        },
+impl From<Result<usize, Refusal>> for PagesWords {
+    ghost from_gives = { λ a p. p ≡ pages_of (reply_of a) };
+
+    fn from(answer: Result<usize, Refusal>) -> PagesWords {
+        match answer {
+            Ok(entries) => PagesWords {
+                entries: entries as u64,
+                ..PagesWords::default()
+            },
+            Err(refusal) => PagesWords {
+                refusal: u64::from(rules::refusal_number(refusal)),
+                place: rules::refusal_place(refusal) as u64,
+                ..PagesWords::default()
+            },
+        }
     }
 }
 
@@ -380,13 +330,7 @@ fn pages_words(l: Result<usize, Refusal>) -> PagesWords
 pub extern "C" fn waylluqen_page_entries(mapping: MappingWords, entries: &mut [u64]) -> PagesWords
     ensures { pages_left (page_entries (mapping_in mapping) entries.old) ≡ record { answer = result; words = entries.new } }
 {
-    let m = Mapping {
-        address: mapping.address,
-        size: mapping.size,
-        object: mapping.object,
-        offset: mapping.offset,
-    };
-    pages_words(entries::page_entries(m, entries))
+    PagesWords::from(entries::page_entries(Mapping::from(mapping), entries))
 }
 
 // The interface's number is in the name: header and ffi.rs need this very symbol, so that they link with no other edition of

@@ -5,7 +5,7 @@ use native.Mathlib.Omega.{arith}
 use Rattle.std.proofs.Common.{Ok, Err, Continue}
 use Rattle.vmbind.specs.declared.Failure.TheVariants.{TooLong}
 use Rattle.vmbind.specs.Buffers.{Rounds, no_round, next}
-use Rattle.vmbind.proofs.Answers.{is_err}
+use Rattle.vmbind.proofs.Answers.{fails_by}
 use Rattle.vmbind.proofs.Runs.{held_after, ran, ran_failed, ran_done, goes_on}
 use Rattle.vmbind.proofs.Run.follow.Goals as goal
 
@@ -16,7 +16,7 @@ pub round-requires : goal.round-requires
 round-requires c = held_after c.loop.invariant.1
 
 pub returns-in_err-round : goal.returns-in_err-round
-returns-in_err-round c = rw (is_err c.from_residual.ensures.1 refl) (ran_failed c.loop.invariant.1 (c.in_err-round.ensures {u = tt}))
+returns-in_err-round c = rw (fails_by c.from_residual.ensures.1 refl) (ran_failed c.loop.invariant.1 (c.in_err-round.ensures {u = tt}))
 
 pub returns-then-is_break : goal.returns-then-is_break
 returns-then-is_break c = ran_done c.loop.invariant.1 (c.in_ok-round.ensures {u = tt}) (sym c.is_break.ensures ∙ c.if-is_break.true)
