@@ -5,14 +5,14 @@ use mathlib.Core.List.{List, [], ◌∷◌, ◌++◌, append-nil, flat_map}
 use Prim.Native.Nat.{ℕ, zero, suc, ◌+◌, ◌-◌, ◌*◌, ◌≤◌}
 use native.Mathlib.Omega.{arith}
 use borrow.Rule.Slice.PartMut.{put_mid}
-use lib.ListN.{length, length-append, length-drop, take, drop, drop_of_length-le}
+use lib.ListN.{length, set, length-append, length-drop, take, drop, drop_of_length-le}
 use lib.Seq.{take_all}
 use Rattle.model.proofs.Operations.{flat_map-append}
 use Rattle.pages.specs.declared.Entry.{Entry}
 use Rattle.pages.specs.Pages.{entries_from, entry_words}
 use Rattle.pages.proofs.Counts.{length_entry_words}
 use Rattle.words.specs.Words.{stored}
-use Rattle.words.proofs.Stored.{stored_none, stored-part, stored-behind}
+use Rattle.words.proofs.Stored.{stored_none, stored-part, stored-behind, sets_stored}
 use Rattle.entries.specs.Sizes.{Wrote}
 
 -- entries behind others
@@ -62,9 +62,12 @@ module _ (s a f : ℕ) {before : List ℕ} where
   unfolding entries_from flat_map
   row-start = record { words = sym (stored_none before 0); last = omega arith }
 
-  pub row_next : (i : ℕ) {ws next : List ℕ} → Wrote before ws 0 (3 * i) (entries_from s i a f) → next ≡ stored ws (3 * i) ((a + i * s) ∷ (f + i * s) ∷ s ∷ [])
-      → Wrote before next 0 (3 * (i + 1)) (entries_from s (i + 1) a f)
+  pub row_next : (i : ℕ) {ws : List ℕ} → Wrote before ws 0 (3 * i) (entries_from s i a f) → 3 * i + 3 ≤ length ws
+      → Wrote before (set (set (set ws (3 * i) (a + i * s)) (3 * i + 1) (f + i * s)) (3 * i + 2) s) 0 (3 * (i + 1)) (entries_from s (i + 1) a f)
   unfolding flat_map
-  row_next i w e =
+  row_next i {ws} w h =
       let d : i + 1 ≡ suc i = omega arith in
-      rw (d, entries_next s i a f) (wrote_behind (omega arith) w (record { words = e; last = omega arith }))
+      let one : 3 * i + 1 ≡ suc (3 * i) = omega arith in
+      let two : 3 * i + 2 ≡ suc (suc (3 * i)) = omega arith in
+      let words = sets_stored ws (3 * i) ((a + i * s) ∷ (f + i * s) ∷ s ∷ []) h in
+      rw (d, one, two, entries_next s i a f) (wrote_behind (omega arith) w (record { words = words; last = omega arith }))

@@ -202,8 +202,9 @@ impl Part {
         // By place: tried over chunks_exact_mut, after which a proof knows the slice's length alone.
         for i in 0..count {
             let behind = i as u64 * bytes;
-            let entry = [m.address + behind, m.offset + behind, bytes];
-            words::store(out, 3 * i, &entry);
+            out[3 * i] = m.address + behind;
+            out[3 * i + 1] = m.offset + behind;
+            out[3 * i + 2] = bytes;
         }
         3 * count
     }
