@@ -63,7 +63,7 @@ pub fn keeps_rules(s: Space, list: &[u64], count: usize) -> bool
     }
     length_is_right(list, count)
         && all_fit(s, list, count)
-        && words::few_are_zero_from(list, 2 * count)
+        && words::are_zero_from(list, 2 * count)
 }
 
 // A range as the search by halves takes it: as a mapping, whose object plays no part.

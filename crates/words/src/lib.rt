@@ -130,14 +130,6 @@ fn join_fours(seen: [u64; 4], words: &[u64]) -> [u64; 4]
     all
 }
 
-// Whether all words from `from` on are zero, where they are few: joined one by one.
-pub fn few_are_zero_from(t: &[u64], from: usize) -> bool
-    requires { from ≤ length t.now }
-    ensures { (result ≡ true → ZeroFrom t.now from) × (ZeroFrom t.now from → result ≡ true) }
-{
-    joined(&t[from..]) == 0
-}
-
 // Whether the words are zero, by one look at all of them joined, without a branch for each. Turns of 128 words read memory
 // the quickest.
 fn all_zero(words: &[u64]) -> bool

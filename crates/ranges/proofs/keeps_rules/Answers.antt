@@ -17,7 +17,7 @@ returns-then-all_fit c =
     elim c.if-length_is_right.branch [
       | then-length_is_right w ↦
           words-decide a.s (lent_list a.list.now a.count) (sym c.length_is_right.ensures ∙ w.if-length_is_right.true)
-          (sym w.all_fit.ensures ∙ sym w.value-is ∙ c.if-all_fit.true) c.few_are_zero_from.ensures
+          (sym w.all_fit.ensures ∙ sym w.value-is ∙ c.if-all_fit.true) c.are_zero_from.ensures
       | else-length_is_right w ↦ absurd (true≢false (sym c.if-all_fit.true ∙ w.value-is ∙ w.if-length_is_right.false))
     ]
 
