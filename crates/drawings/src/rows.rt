@@ -1,10 +1,10 @@
 // A row of the program's table, read, and the words that a call is given or leaves for it.
-ghost use Rattle.std.specs.Prelude.{◌≡◌, ◌≤◌, ◌∷◌, ◌++◌, IfSome};
+ghost use Rattle.std.specs.Prelude.{◌≡◌, ◌≤◌, ◌∷◌, ◌++◌, IfSome, IsTrue, ◌↔◌};
 ghost use Rattle.model.specs.Rows.{choose};
 ghost use Rattle.model.specs.Table.{words_of};
 ghost use Rattle.model.specs.Layout.{words_of_operation};
 ghost use Rattle.model.specs.Drawings.{at};
-ghost use Rattle.drawings.specs.Rows.{mapping_words, operation_words};
+ghost use Rattle.drawings.specs.Rows.{mapping_words, operation_words, items, IsExpected};
 
 use model::{Grant, Mapping, Operation, Refusal, Rests};
 use std::str::SplitWhitespace;
@@ -51,7 +51,9 @@ impl<'a> Row<'a> {
 
     // Whether this is the answer that the row expects: no refusal of a row has a place, and there is
     // no list of sparse ranges.
-    pub fn expects(&self, answer: Result<Grant, Refusal>) -> bool {
+    pub fn expects(&self, answer: Result<Grant, Refusal>) -> bool
+        ensures { IsTrue result ↔ IsExpected self.now.result self.now.new answer }
+    {
         match (answer, self.result) {
             (Ok(grant), Ok(operations)) => {
                 grant.operations == count(&operations)
@@ -67,8 +69,10 @@ impl<'a> Row<'a> {
 }
 
 // How many items a list has.
-pub fn count<T>(list: &[Option<T>]) -> usize {
-    list.iter().flatten().count()
+pub fn count<T>(list: &[Option<T>]) -> usize
+    ensures { result ≡ items list.now }
+{
+    list.iter().filter(|place| place.is_some()).count()
 }
 
 // A row's label, and the capacity behind it.

@@ -1,4 +1,6 @@
 // Shows rows and words in the notation of document 01: mappings in pages, operations by kind and keep.
+ghost use Rattle.std.specs.Prelude.{◌≡◌, take};
+
 use crate::rows::PAGE;
 use model::{Mapping, Operation, Rests};
 use std::fmt;
@@ -83,6 +85,8 @@ where
 }
 
 // The first items of a run, or all where it has fewer.
-pub fn first<T>(items: &[T], count: usize) -> &[T] {
+pub fn first<T>(items: &[T], count: usize) -> &[T]
+    ensures { result.now ≡ take count items.now }
+{
     items.get(..count).unwrap_or(items)
 }
