@@ -1,18 +1,18 @@
 -- Entries in the words of a slice, one after the other, and lists one behind the other.
 -- Assumes nothing.
 use mathlib.Core.Path.{◌≡◌, sym, ap, ap₂, ◌∙◌}
-use mathlib.Core.List.{List, [], ◌∷◌, ◌++◌, append-nil, flat_map}
+use mathlib.Core.List.{List, [], ◌∷◌, ◌++◌, append-nil, append_assoc, flat_map}
 use Prim.Native.Nat.{ℕ, zero, suc, ◌+◌, ◌-◌, ◌*◌, ◌≤◌}
 use native.Mathlib.Omega.{arith}
 use borrow.Rule.Slice.PartMut.{put_mid}
 use lib.ListN.{length, set, length-append, length-drop, take, drop, drop_of_length-le}
-use lib.Seq.{take_all}
+use lib.Seq.{take_all, sets, sets-eq}
 use Rattle.model.proofs.Operations.{flat_map-append}
 use Rattle.pages.specs.declared.Entry.{Entry}
 use Rattle.pages.specs.Pages.{entries_from, entry_words}
 use Rattle.pages.proofs.Counts.{length_entry_words}
 use Rattle.words.specs.Words.{stored}
-use Rattle.words.proofs.Stored.{stored_none, stored-part, stored-behind, sets_stored}
+use Rattle.words.proofs.Stored.{stored_none, stored-part, stored-behind}
 use Rattle.entries.specs.Sizes.{Wrote}
 
 -- entries behind others
@@ -56,6 +56,11 @@ entries_next s (suc n) a f =
     (entries_next s n (a + s) (f + s)
     ∙ ap₂ (λ (x y : ℕ). entries_from s n (a + s) (f + s) ++ (entry s x y ∷ [])) (omega arith) (omega arith))
 
+-- words that are stored one by one
+sets_stored : (run ws : List ℕ) (at : ℕ) → at + length run ≤ length ws → sets ws at run ≡ stored ws at run
+unfolding stored
+sets_stored run ws at h = sets-eq run ws at h ∙ append_assoc (take at ws) run _
+
 -- i entries are written
 module _ (s a f : ℕ) {before : List ℕ} where
   pub row-start : Wrote before before 0 0 (entries_from s 0 a f)
@@ -69,5 +74,5 @@ module _ (s a f : ℕ) {before : List ℕ} where
       let d : i + 1 ≡ suc i = omega arith in
       let one : 3 * i + 1 ≡ suc (3 * i) = omega arith in
       let two : 3 * i + 2 ≡ suc (suc (3 * i)) = omega arith in
-      let words = sets_stored ws (3 * i) ((a + i * s) ∷ (f + i * s) ∷ s ∷ []) h in
+      let words = sets_stored ((a + i * s) ∷ (f + i * s) ∷ s ∷ []) ws (3 * i) h in
       rw (d, one, two, entries_next s i a f) (wrote_behind (omega arith) w (record { words = words; last = omega arith }))
