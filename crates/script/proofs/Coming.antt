@@ -57,7 +57,7 @@ lines_split p st bs = go (step st bs).told refl
 -- ── a record that waits for more bytes, and one that does not ──
 
 pub never : {A : Type 0} → true ≡ false → A
-never e = let z : ◌≡◌ {A = ℕ} 0 1 = ap (λ (b : Bool). choose b 0 1) e in absurd (omega arith)
+never e = cc
 
 module _ (st : State) (bs : List ℕ) where
   -- it is cut or there is none, and nothing has changed
@@ -98,8 +98,8 @@ module _ (st : State) (bs : List ℕ) where
     where
       go : (record_at bs ≡ Cut) ⊎ ((record_at bs ≡ End) ⊎ ((record_at (bs ++ more) ≡ record_at bs) × ((st : State) → step st (bs ++ more) ≡ step st bs)))
           → (record_at (bs ++ more) ≡ record_at bs) × (step st (bs ++ more) ≡ step st bs)
-      go (inl e) = never (sym (ap (λ (r : ScriptRecord). is_short (step_on r st bs).told) e) ∙ h)
-      go (inr (inl e)) = never (sym (ap (λ (r : ScriptRecord). is_short (step_on r st bs).told) e) ∙ h)
+      go (inl e) = let k = ap (λ (r : ScriptRecord). is_short (step_on r st bs).told) e in cc
+      go (inr (inl e)) = let k = ap (λ (r : ScriptRecord). is_short (step_on r st bs).told) e in cc
       go (inr (inr k)) = (k.0, k.1 st)
 
 -- ── what an answered record leaves to come ──

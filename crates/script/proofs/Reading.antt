@@ -1,7 +1,7 @@
 -- What stands at the front of some bytes, by the tests that code makes.
 -- Assumes nothing.
-use mathlib.Core.Path.{◌≡◌, refl, sym, ap, ◌∙◌}
-use mathlib.Core.Logic.{◌⊎◌, inl, inr}
+use mathlib.Core.Path.{◌≡◌, refl, sym, ◌∙◌}
+use mathlib.Core.Logic.{◌⊎◌, ⊎_elim}
 use mathlib.Core.Bool.{Bool, true, false}
 use mathlib.Core.List.{List}
 use Prim.Native.Nat.{ℕ, ◌+◌, ◌≤◌, ◌<◌}
@@ -90,27 +90,15 @@ pub ruleset reading = (at_end, one_left, space_there, space_short, request_there
 
 -- ── a record that is cut, and none, have few bytes ──
 
-abbrev shorts : ScriptRecord → ℕ
-shorts (SetSpace s) = 0
-shorts Bind = 0
-shorts (LookUp x) = 0
-shorts OtherMark = 0
-shorts Cut = 1
-shorts End = 1
-
-long : (bs : List ℕ) → 42 ≤ length bs → shorts (record_at bs) ≡ 0
+long : (bs : List ℕ) → 42 ≤ length bs → (record_at bs ≡ Cut) ⊎ (record_at bs ≡ End) → ⊥
 long bs h = go (has_mark 83 80 bs) (has_mark 82 81 bs) (has_mark 76 75 bs) refl refl refl
   where
-    go : (s r l : Bool) → has_mark 83 80 bs ≡ s → has_mark 82 81 bs ≡ r → has_mark 76 75 bs ≡ l → shorts (record_at bs) ≡ 0
-    go true r l d e f = rw (marked bs (omega arith) d e f, there bs 32 (SetSpace (space_in bs)) (omega arith))
-    go false true l d e f = rw (marked bs (omega arith) d e f, there bs 40 Bind (omega arith))
-    go false false true d e f = rw (marked bs (omega arith) d e f, there bs 8 (LookUp (little_endian 8 (drop 2 bs))) (omega arith))
-    go false false false d e f = rw (marked bs (omega arith) d e f)
+    go : (s r l : Bool) → has_mark 83 80 bs ≡ s → has_mark 82 81 bs ≡ r → has_mark 76 75 bs ≡ l → (record_at bs ≡ Cut) ⊎ (record_at bs ≡ End) → ⊥
+    go true r l d e f k = let is = marked bs (omega arith) d e f ∙ there bs 32 (SetSpace (space_in bs)) (omega arith) in ⊎_elim (λ c. cc) (λ c. cc) k
+    go false true l d e f k = let is = marked bs (omega arith) d e f ∙ there bs 40 Bind (omega arith) in ⊎_elim (λ c. cc) (λ c. cc) k
+    go false false true d e f k =
+        let is = marked bs (omega arith) d e f ∙ there bs 8 (LookUp (little_endian 8 (drop 2 bs))) (omega arith) in ⊎_elim (λ c. cc) (λ c. cc) k
+    go false false false d e f k = let is = marked bs (omega arith) d e f in ⊎_elim (λ c. cc) (λ c. cc) k
 
 pub short_length : (bs : List ℕ) → (record_at bs ≡ Cut) ⊎ (record_at bs ≡ End) → length bs < 42
-short_length bs h = go (order 42 (length bs)) h
-  where
-    go : (42 ≤ length bs) ⊎ (length bs < 42) → (record_at bs ≡ Cut) ⊎ (record_at bs ≡ End) → length bs < 42
-    go (inl k) (inl e) = absurd (omega (arith, long bs k, ap shorts e))
-    go (inl k) (inr e) = absurd (omega (arith, long bs k, ap shorts e))
-    go (inr k) e = k
+short_length bs h = ⊎_elim (λ k. absurd (long bs k h)) (λ k. k) (order 42 (length bs))
