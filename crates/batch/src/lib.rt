@@ -5,17 +5,18 @@
 
 ghost use Rattle.std.specs.Prelude.{◌≡◌, [], ◌∷◌, length};
 ghost use Rattle.model.specs.Rows.{all, verdict};
-ghost use Rattle.model.specs.Table.{operations_row, table_rows};
+ghost use Rattle.model.specs.Table.{operations_row};
 ghost use Rattle.model.specs.Calls.{lent_rows, reply_of};
 ghost use Rattle.batches.specs.Batch.{requests_in, batch_row, work_row, bind_batch, batch_reply};
 ghost use Rattle.table.specs.Places.{lent};
 ghost use Rattle.change.specs.Change.{FirstBehind};
-ghost use Rattle.request.specs.Bound.{lent_words, Checked};
+ghost use Rattle.request.specs.Bound.{lent_words, lent_of, Checked};
 ghost use Rattle.batch.specs.Turns.{one, turned, committed};
 
 use batches::BatchRefusal;
 use change::Made;
 use model::{Grant, Refusal, Request, Space};
+use request::Lent;
 use table::Table;
 
 const MOST_RECORDS: usize = 64;
@@ -27,37 +28,20 @@ fn are_records(bytes: &[u8]) -> bool
     (bytes.len() % record::RECORD_BYTES == 0) & (bytes.len() <= MOST_RECORDS * record::RECORD_BYTES)
 }
 
-// Rows 1, 2, 3, 15, 4, 5 and 17, of the table alone, with so many words lent to work in and for operations.
-fn table_verdict(
-    s: Space,
-    table: &[u64],
-    count: usize,
-    work_words: usize,
-    operation_words: usize,
-) -> Result<(), Refusal>
-    ensures { reply_of result ≡ verdict (table_rows s (operations_row operation_words (lent table.now count) ∷ work_row work_words (lent table.now count) ∷ []) (lent table.now count)) }
-{
-    request::lengths_verdict(s, table, operation_words)?;
-    if work_words != table.len() {
-        return Err(Refusal::BadWorkLength);
-    }
-    inspect::contents_verdict(s, table, count)
-}
-
-// Those and row 18.
+// Rows 1, 2, 3, 15, 4, 5, 17 and 18, with so many words lent to work in and for operations.
 fn lent_verdict(
     s: Space,
-    ranges: &[u64],
-    range_count: usize,
-    table: &[u64],
-    count: usize,
+    l: &Lent<'_>,
     work_words: usize,
     operation_words: usize,
 ) -> Result<(), Refusal>
-    ensures { reply_of result ≡ verdict (lent_rows s (operations_row operation_words (lent table.now count) ∷ work_row work_words (lent table.now count) ∷ []) (lent_words ranges.now range_count table.now count)) }
+    ensures { reply_of result ≡ verdict (lent_rows s (operations_row operation_words (lent_of l.now).table ∷ work_row work_words (lent_of l.now).table ∷ []) (lent_of l.now)) }
 {
-    table_verdict(s, table, count, work_words, operation_words)?;
-    request::list_verdict(s, ranges, range_count)
+    l.lengths_verdict(s, operation_words)?;
+    if work_words != l.table.len() {
+        return Err(Refusal::BadWorkLength);
+    }
+    l.contents_verdict(s)
 }
 
 // A request in its turn: rows 13 and 14, of which no flag is served, 6 to 11 and 16, or the table cut and the operations
@@ -165,14 +149,12 @@ pub fn bind_batch(
     if !are_records(records) {
         return Err(BatchRefusal::from(Refusal::BadRecordLength));
     }
-    lent_verdict(
-        s,
+    let lent = Lent {
         ranges,
         range_count,
         table,
         count,
-        work.len(),
-        operations.len(),
-    )?;
+    };
+    lent_verdict(s, &lent, work.len(), operations.len())?;
     all_or_none(s, range_count, table, count, work, operations, records)
 }

@@ -2,16 +2,14 @@
 // answer, and leave the words, that the model gives.
 #![tactic(auto)]
 
-ghost use Rattle.std.specs.Prelude.{◌≡◌, List, [], ℕ, ◌<◌};
-ghost use Rattle.model.specs.Rows.{verdict};
-ghost use Rattle.model.specs.Table.{table_rows};
-ghost use Rattle.model.specs.Calls.{asked, bytes, range_of, lent_rows, adds, removes, purpose, bind, lookup, reply_of};
-ghost use Rattle.table.specs.Places.{lent};
+ghost use Rattle.std.specs.Prelude.{◌≡◌, List, ℕ, ◌<◌};
+ghost use Rattle.model.specs.Calls.{asked, bytes, range_of, adds, removes, purpose, bind, lookup, reply_of};
 ghost use Rattle.request.specs.Bound.{lent_words, Relistable, decided};
 ghost use Rattle.bind.specs.Asked.{numbers_of};
 
 use model::{Grant, Range, Refusal, Request, Seen, Space};
 use ranges::RangeList;
+use request::Lent;
 use table::Table;
 
 // A request by its numbers: op 0 maps, op 1 unmaps, another is refused.
@@ -41,36 +39,6 @@ impl From<Numbers> for Request {
     }
 }
 
-// Rows 1, 2, 4, 5 and 17: a look-up's, of the table alone.
-#[tactic(auto, unfolding(model::specs::Rows::decide, model::specs::Table::table_rows))]
-fn lookup_table_verdict(s: Space, table: &[u64], count: usize) -> Result<(), Refusal>
-    ensures { reply_of result ≡ verdict (table_rows s [] (lent table.now count)) }
-{
-    if !rules::space_keeps_rules(s) {
-        return Err(Refusal::BadSpace);
-    }
-    inspect::table_verdict(s, table, count)
-}
-
-// Rows 1, 2, 4, 5, 17 and 18. The list is lent on as a part: where there is none, its pointer and length then stay in
-// registers, and are not stored for a call that is not made.
-fn lookup_verdict(
-    s: Space,
-    ranges: &[u64],
-    range_count: usize,
-    table: &[u64],
-    count: usize,
-) -> Result<(), Refusal>
-    ensures { reply_of result ≡ verdict (lent_rows s [] (lent_words ranges.now range_count table.now count)) }
-{
-    lookup_table_verdict(s, table, count)?;
-    if request::is_none(ranges, range_count) {
-        return Ok(());
-    }
-    // As a part: lent on as it came, its address and length would be stored at every call.
-    request::list_verdict(s, &ranges[0..], range_count)
-}
-
 // What the byte address `x` shows in a table of `count` mappings, beside a list of sparse ranges, and for how many bytes,
 // or the first of the refusals 1, 2, 4, 5, 17 and 18.
 pub fn lookup(
@@ -83,7 +51,13 @@ pub fn lookup(
 ) -> Result<Seen, Refusal>
     ensures { reply_of result ≡ lookup s (lent_words ranges.now range_count table.now count) x }
 {
-    lookup_verdict(s, ranges, range_count, table, count)?;
+    let lent = Lent {
+        ranges,
+        range_count,
+        table,
+        count,
+    };
+    lent.lookup_verdict(s)?;
     let alone = Table::new(table, count).see(s, x);
     Ok(RangeList::new(ranges, range_count).beside(x, alone))
 }

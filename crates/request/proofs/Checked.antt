@@ -2,7 +2,7 @@
 -- Assumes nothing.
 use mathlib.Core.Path.{◌≡◌, refl, sym, subst, ◌∙◌}
 use mathlib.Core.Bool.{true, ◌&&◌}
-use mathlib.Core.List.{List, [], ◌∷◌, ◌++◌}
+use mathlib.Core.List.{List, [], ◌∷◌, ◌++◌, append_assoc}
 use Prim.Native.Nat.{ℕ, zero, suc, ◌+◌, ◌*◌, ◌≤◌}
 use native.Mathlib.Omega.{arith}
 use lib.Dec.{T, eqb, eqb→eq}
@@ -11,13 +11,13 @@ use borrow.Author.Tests.{eq-eqb}
 use Rattle.model.specs.declared.Request.{Request}
 use Rattle.model.specs.declared.Space.{Space}
 use Rattle.model.specs.Rows.{all, Row, Reply, answered, verdict}
-use Rattle.model.specs.Rules.{limit, space_tests, object_tests, offset_tests, request_rows}
+use Rattle.model.specs.Rules.{limit, space_tests, space_row, object_tests, offset_tests, request_rows}
 use Rattle.model.specs.Table.{Table, mappings, operations_row, content_rows, table_rows}
 use Rattle.model.specs.Cut.{operations}
 use Rattle.model.specs.Ranges.{list_row}
 use Rattle.model.specs.Calls.{Lent, lent_rows}
 use Rattle.model.proofs.Tests.{tests, Alls, and_both, all_facts, all_true}
-use Rattle.model.proofs.Rows.{passed_split, answered_passed, passes, and_then, decide-append}
+use Rattle.model.proofs.Rows.{past, passed_split, answered_passed, passes, and_then, decide-append}
 use Rattle.model.proofs.Groups.{LentPassed, lent_passed, RequestPassed, request_passed}
 use Rattle.model.proofs.Store.{length-mappings}
 use Rattle.model.proofs.Zeros.{stale_zeros}
@@ -26,7 +26,8 @@ use Rattle.table.specs.Places.{ValidIn}
 use Rattle.change.specs.Change.{Ready}
 use Rattle.ranges.specs.Lists.{lent_list, ValidList}
 use Rattle.ranges.proofs.Fits.{empty_decides}
-use Rattle.request.specs.Bound.{length_rows, checked_rows, Checked, Relistable}
+use Rattle.inspect.specs.Rows.{own_rows}
+use Rattle.request.specs.Bound.{length_rows, contents_rows, checked_rows, Checked, Relistable}
 
 -- a map's offset and size end by 2^48, and any other request has no offset
 offset_most : {s : Space} (r : Request) → RequestPassed s r → r.offset ≤ limit
@@ -122,19 +123,23 @@ module _ (s : Space) (l : Lent) where
   pub lengths_held : (n : ℕ) → answered tt ≡ verdict (length_rows s n l.table.words) → all (space_tests s) ≡ true
   lengths_held n e = all_true (space_tests s) (answered_passed (length_rows s n l.table.words) tt tt (sym e)).0.0
 
-  -- rows 1, 2 and 3, and those behind them
-  pub table_by : (n : ℕ) (between : List Row) {u v : Reply (Unit {0})} → u ≡ verdict (length_rows s n l.table.words) → v ≡ verdict (between ++ content_rows s l.table)
-      → and_then u v ≡ verdict (table_rows s (operations_row n l.table ∷ between) l.table)
-  unfolding table_rows
-  table_by n between e f = rw (e, f) (sym (decide-append (length_rows s n l.table.words) (between ++ content_rows s l.table) tt))
+  -- rows 4, 5 and 17, and 18
+  pub contents_by : {u v : Reply (Unit {0})} → u ≡ verdict (content_rows s l.table) → v ≡ verdict (list_row s l.ranges ∷ [])
+      → and_then u v ≡ verdict (contents_rows s l)
+  contents_by e f = rw (e, f) (sym (decide-append (content_rows s l.table) (list_row s l.ranges ∷ []) tt))
 
-  -- past the table's rows the space keeps its rules
-  pub space_held : (between : List Row) → answered tt ≡ verdict (table_rows s between l.table) → all (space_tests s) ≡ true
-  unfolding table_rows
-  space_held between e = all_true (space_tests s) (answered_passed (table_rows s between l.table) tt tt (sym e)).0.0
+  -- rows 1, 2 and 3, those of a call that stand between, and the others
+  pub lent_by : (n : ℕ) (between : List Row) {u v : Reply (Unit {0})} → u ≡ verdict (length_rows s n l.table.words)
+      → v ≡ verdict (between ++ contents_rows s l) → and_then u v ≡ verdict (lent_rows s (operations_row n l.table ∷ between) l)
+  unfolding lent_rows table_rows
+  lent_by n between e f =
+      rw (e, f, ← append_assoc between (content_rows s l.table) (list_row s l.ranges ∷ []))
+      (sym (decide-append (length_rows s n l.table.words) ((between ++ content_rows s l.table) ++ list_row s l.ranges ∷ []) tt))
 
-  -- the table's rows, and row 18
-  pub lent_by : (between : List Row) {u v : Reply (Unit {0})} → u ≡ verdict (table_rows s between l.table) → v ≡ verdict (list_row s l.ranges ∷ [])
-      → and_then u v ≡ verdict (lent_rows s between l)
-  unfolding lent_rows
-  lent_by between e f = rw (e, f) (sym (decide-append (table_rows s between l.table) (list_row s l.ranges ∷ []) tt))
+  -- a look-up's rows behind the first, and 18
+  pub lookup_by : {u v : Reply (Unit {0})} → all (space_tests s) ≡ true → u ≡ verdict (own_rows s l.table) → v ≡ verdict (list_row s l.ranges ∷ [])
+      → and_then u v ≡ verdict (lent_rows s [] l)
+  unfolding lent_rows table_rows
+  lookup_by h e f =
+      rw (e, f) (sym (decide-append (own_rows s l.table) (list_row s l.ranges ∷ []) tt)
+      ∙ sym (past (space_row s ∷ []) (own_rows s l.table ++ list_row s l.ranges ∷ []) tt (all_facts (space_tests s) h, tt)))

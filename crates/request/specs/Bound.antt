@@ -5,9 +5,11 @@ use Rattle.model.specs.declared.Request.{Request}
 use Rattle.model.specs.declared.Space.{Space}
 use Rattle.model.specs.Rows.{Row, Reply, refused, answered, decide}
 use Rattle.model.specs.Rules.{limit, stop, space_tests, space_row, request_rows}
-use Rattle.model.specs.Table.{Table, length_row, operations_row}
+use Rattle.model.specs.Table.{Table, length_row, operations_row, content_rows}
+use Rattle.model.specs.Ranges.{list_row}
 use Rattle.model.specs.Calls.{Lent, lent_rows, Purpose, cuts, purpose, last_rows, cut_grant, grant_for, Outcome, untouched, outcome_for}
 use Rattle.model.proofs.Tests.{Alls}
+use Rattle.request.specs.declared.Lent.{Lent as Slices}
 use Rattle.words.specs.Words.{ZeroFrom}
 use Rattle.table.specs.Places.{lent, Valid, ValidIn}
 use Rattle.ranges.specs.Lists.{lent_list, ValidList}
@@ -17,9 +19,17 @@ use Rattle.change.specs.Change.{Changed, changed_for, made, room_rows}
 abbrev pub lent_words : List ℕ → ℕ → List ℕ → ℕ → Lent
 lent_words rs n ws count = record { table = lent ws count; ranges = lent_list rs n }
 
+-- the same of the struct of src/lib.rt
+abbrev pub lent_of : Slices → Lent
+lent_of l = lent_words l.ranges.now l.range_count l.table.now l.count
+
 -- the rows 1, 2 and 3 of a table in the words ws, with n words lent for operations
 abbrev pub length_rows : Space → ℕ → List ℕ → List Row
 length_rows s n ws = space_row s ∷ length_row (lent ws 0) ∷ operations_row n (lent ws 0) ∷ []
+
+-- the rows 4, 5, 17 and 18
+abbrev pub contents_rows : Space → Lent → List Row
+contents_rows s l = content_rows s l.table ++ list_row s l.ranges ∷ []
 
 -- the rows 1 to 5, 17, 18 and 6 to 10
 abbrev pub checked_rows : Space → Lent → ℕ → Request → List Row

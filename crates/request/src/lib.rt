@@ -12,7 +12,7 @@ ghost use Rattle.model.specs.Calls.{lent_rows, reply_of};
 ghost use Rattle.table.specs.Places.{lent};
 ghost use Rattle.ranges.specs.Lists.{lent_list};
 ghost use Rattle.change.specs.Change.{FirstBehind};
-ghost use Rattle.request.specs.Bound.{lent_words, length_rows, partly, Checked, bound_known};
+ghost use Rattle.request.specs.Bound.{lent_words, lent_of, length_rows, contents_rows, partly, Checked, bound_known};
 
 use change::Made;
 use model::{Grant, Refusal, Request, Space};
@@ -20,7 +20,7 @@ use table::{Rows, Table};
 
 // Row 18.
 #[tactic(auto, unfolding(model::specs::Rows::decide))]
-pub fn list_verdict(s: Space, ranges: &[u64], range_count: usize) -> Result<(), Refusal>
+fn list_verdict(s: Space, ranges: &[u64], range_count: usize) -> Result<(), Refusal>
     requires { all (space_tests s) ≡ true }
     ensures { reply_of result ≡ verdict (list_row s (lent_list ranges.now range_count) ∷ []) }
 {
@@ -30,62 +30,75 @@ pub fn list_verdict(s: Space, ranges: &[u64], range_count: usize) -> Result<(), 
     Ok(())
 }
 
-// No list is lent, which keeps the rules: a call with none is to be as quick as without lists.
-#[tactic(auto, using(crate::proofs::Checked::none_listed))]
-pub fn is_none(ranges: &[u64], range_count: usize) -> bool
-    ensures { result ≡ true → (s : Space) → answered tt ≡ verdict (list_row s (lent_list ranges.now range_count) ∷ []) }
-{
-    ranges.is_empty() && range_count == 0
+// What is lent to read: a list of sparse ranges and a table, each with its count.
+#[derive(Clone, Copy)]
+pub struct Lent<'a> {
+    pub ranges: &'a [u64],
+    pub range_count: usize,
+    pub table: &'a [u64],
+    pub count: usize,
 }
 
-// Rows 1, 2 and 3, with so many words lent for operations.
-#[tactic(auto, unfolding(model::specs::Rows::decide))]
-pub fn lengths_verdict(s: Space, table: &[u64], operation_words: usize) -> Result<(), Refusal>
-    ensures { reply_of result ≡ verdict (length_rows s operation_words table.now) }
-{
-    if !rules::space_keeps_rules(s) {
-        return Err(Refusal::BadSpace);
+impl Lent<'_> {
+    // Rows 1, 2 and 3, with so many words lent for operations.
+    #[tactic(auto, unfolding(model::specs::Rows::decide))]
+    pub fn lengths_verdict(&self, s: Space, operation_words: usize) -> Result<(), Refusal>
+        ensures { reply_of result ≡ verdict (length_rows s operation_words self.now.table.now) }
+    {
+        if !rules::space_keeps_rules(s) {
+            return Err(Refusal::BadSpace);
+        }
+        if !inspect::length_is_right(self.table) {
+            return Err(Refusal::BadTableLength);
+        }
+        if !cut::operations_fit(operation_words, self.table.len() / 4) {
+            return Err(Refusal::ShortOperations);
+        }
+        Ok(())
     }
-    if !inspect::length_is_right(table) {
-        return Err(Refusal::BadTableLength);
-    }
-    if !cut::operations_fit(operation_words, table.len() / 4) {
-        return Err(Refusal::ShortOperations);
-    }
-    Ok(())
-}
 
-// Rows 1 to 5 and 17, of the table alone.
-fn table_verdict(
-    s: Space,
-    table: &[u64],
-    count: usize,
-    operation_words: usize,
-) -> Result<(), Refusal>
-    ensures { reply_of result ≡ verdict (table_rows s (operations_row operation_words (lent table.now count) ∷ []) (lent table.now count)) }
-{
-    lengths_verdict(s, table, operation_words)?;
-    inspect::contents_verdict(s, table, count)
-}
-
-// Rows 1 to 5, 17 and 18. The list is lent on as a part: where there is none, its pointer and length then stay in
-// registers, and are not stored for a call that is not made.
-fn lent_verdict(
-    s: Space,
-    ranges: &[u64],
-    range_count: usize,
-    table: &[u64],
-    count: usize,
-    operation_words: usize,
-) -> Result<(), Refusal>
-    ensures { reply_of result ≡ verdict (lent_rows s (operations_row operation_words (lent table.now count) ∷ []) (lent_words ranges.now range_count table.now count)) }
-{
-    table_verdict(s, table, count, operation_words)?;
-    if is_none(ranges, range_count) {
-        return Ok(());
+    // Rows 4, 5, 17 and 18.
+    pub fn contents_verdict(&self, s: Space) -> Result<(), Refusal>
+        requires { all (space_tests s) ≡ true }
+        ensures { reply_of result ≡ verdict (contents_rows s (lent_of self.now)) }
+    {
+        inspect::contents_verdict(s, self.table, self.count)?;
+        self.list_verdict(s)
     }
-    // As a part: lent on as it came, its address and length would be stored at every call.
-    list_verdict(s, &ranges[0..], range_count)
+
+    // Row 18. A call with no list is to be as quick as without lists: the list is lent on as a part, so that nothing is stored
+    // for a call that is not made.
+    #[inline(always)]
+    #[tactic(auto, using(crate::proofs::Checked::none_listed))]
+    fn list_verdict(&self, s: Space) -> Result<(), Refusal>
+        requires { all (space_tests s) ≡ true }
+        ensures { reply_of result ≡ verdict (list_row s (lent_of self.now).ranges ∷ []) }
+    {
+        if self.ranges.is_empty() && self.range_count == 0 {
+            return Ok(());
+        }
+        list_verdict(s, &self.ranges[0..], self.range_count)
+    }
+
+    // Rows 1 to 5, 17 and 18 of a request.
+    fn verdict(&self, s: Space, operation_words: usize) -> Result<(), Refusal>
+        ensures { reply_of result ≡ verdict (lent_rows s (operations_row operation_words (lent_of self.now).table ∷ []) (lent_of self.now)) }
+    {
+        self.lengths_verdict(s, operation_words)?;
+        self.contents_verdict(s)
+    }
+
+    // Rows 1, 2, 4, 5, 17 and 18, of a look-up.
+    #[tactic(auto, unfolding(model::specs::Rows::decide, model::specs::Table::table_rows, model::specs::Calls::lent_rows))]
+    pub fn lookup_verdict(&self, s: Space) -> Result<(), Refusal>
+        ensures { reply_of result ≡ verdict (lent_rows s [] (lent_of self.now)) }
+    {
+        if !rules::space_keeps_rules(s) {
+            return Err(Refusal::BadSpace);
+        }
+        inspect::table_verdict(s, self.table, self.count)?;
+        self.list_verdict(s)
+    }
 }
 
 // A request whose form is right: rows 1 to 5, 17, 18 and 6 to 10. One without the flag goes on to row 11, and cuts the table
@@ -102,7 +115,13 @@ pub fn bind_request(
 ) -> Result<Grant, Refusal>
     ensures { partly s (lent_words ranges.now range_count table.old count) operations.old r ≡ record { answer = reply_of result; table = table.new; ranges = ranges.now; operations = operations.new } }
 {
-    lent_verdict(s, ranges, range_count, table, count, operations.len())?;
+    let lent = Lent {
+        ranges,
+        range_count,
+        table,
+        count,
+    };
+    lent.verdict(s, operations.len())?;
     rules::request_verdict(s, r)?;
     if r.flags != 0 {
         return Ok(Grant {
