@@ -34,6 +34,6 @@ returns-in_err-lookup_verdict c =
 pub returns : goal.returns
 returns c =
     let a = c.args in
-    lookup-shows a.s (lent_words a.ranges.now a.range_count a.table.now a.count) a.x c.in_ok-lookup_verdict.ensures 
+    lookup-shows a.s (lent_words a.ranges.now a.range_count a.table.now a.count) a.x c.in_ok-lookup_verdict.ensures
     (c.see-alone.ensures ∙ ap (λ (ms : List Mapping). see a.s [] ms a.x) c.new.ensures)
     (c.beside.ensures ∙ ap (λ (ys : List Range). beside ys a.x c.see-alone.result) c.new-2.ensures)
