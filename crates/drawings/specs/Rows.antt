@@ -1,11 +1,11 @@
 -- What the contracts of the program say: the words that a row stands for, and where two lists of words differ.
 use Rattle.std.specs.Prelude.{◌≡◌, ℕ, ◌<◌, ◌≤◌, List, length, ◌≢◌, slice_index, replicate, Option, Some, None, Result, Ok, Err, is_some}
 use Rattle.std.specs.List.{filter}
+use Rattle.model.specs.declared.Mapping.{Mapping}
+use Rattle.model.specs.declared.Operation.{Operation}
 use Rattle.model.specs.declared.Grant.{Grant}
 use Rattle.model.specs.declared.Refusal.{Refusal}
 use Rattle.model.specs.Calls.{numbered}
-use Rattle.model.specs.declared.Mapping.{Mapping}
-use Rattle.model.specs.declared.Operation.{Operation}
 use Rattle.model.specs.Table.{words_of}
 use Rattle.model.specs.Layout.{absent, words_of_operation}
 

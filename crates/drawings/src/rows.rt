@@ -1,9 +1,9 @@
 // A row of the program's table, read, and the words that a call is given or leaves for it.
-ghost use Rattle.std.specs.Prelude.{◌≡◌, ◌≤◌, ◌∷◌, ◌++◌, IfSome, IsTrue, ◌↔◌};
-ghost use Rattle.model.specs.Rows.{choose};
+ghost use Rattle.std.specs.Prelude.{◌≡◌, ◌≤◌, ◌↔◌, IfSome, IsTrue};
 ghost use Rattle.model.specs.Table.{words_of};
 ghost use Rattle.model.specs.Layout.{words_of_operation};
 ghost use Rattle.model.specs.Drawings.{at};
+ghost use Rattle.drawings.specs.declared.rows.TheConstants.{ROOM};
 ghost use Rattle.drawings.specs.Rows.{mapping_words, operation_words, items, IsExpected};
 
 use model::{Grant, Mapping, Operation, Refusal, Rests};
@@ -11,10 +11,10 @@ use std::str::SplitWhitespace;
 
 pub const PAGE: u64 = 4096;
 
-// The mappings that a table has room for, where its row says nothing else, and the operations that
-// a call on it has room for.
+// The mappings that a table has room for, where its row says nothing else.
 pub const ROOM: usize = 8;
 
+// The operations that a call on such a table has room for.
 pub const OPERATIONS: usize = ROOM + 1;
 
 // What a row asks, and what it expects: the operations or a refusal's number, and the mappings
@@ -27,7 +27,7 @@ pub struct Row<'a> {
     pub request: Mapping,
     pub result: Result<[Option<Operation>; OPERATIONS], u32>,
     pub new: [Option<Mapping>; ROOM],
-    ghost fits: { room ≤ 8 },
+    ghost fits: { room ≤ ROOM },
 }
 
 impl<'a> Row<'a> {
@@ -114,6 +114,7 @@ fn result_in(column: &str) -> Option<Result<[Option<Operation>; OPERATIONS], u32
     }
 }
 
+// A mapping, as `[0,2) 7@1`.
 fn mapping(text: &str) -> Option<Mapping> {
     let (range, place) = text.split_once(' ')?;
     in_pages(range, place)
@@ -149,7 +150,7 @@ fn rest(words: &mut SplitWhitespace<'_>) -> Option<Option<Mapping>> {
     }
 }
 
-// A mapping from its two words, as `[0,2)` and `7@1`.
+// The mapping of two words, as `[0,2)` and `7@1`.
 fn in_pages(range: &str, place: &str) -> Option<Mapping> {
     let (first, end) = range.strip_prefix('[')?.strip_suffix(')')?.split_once(',')?;
     let (object, offset) = place.split_once('@')?;
