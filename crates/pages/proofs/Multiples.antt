@@ -4,7 +4,7 @@ use mathlib.Core.Path.{◌≡◌, sym, ap, subst, ◌∙◌}
 use mathlib.Core.Logic.{◌⊎◌, inl, inr}
 use Prim.Native.Nat.{ℕ, ◌+◌, ◌-◌, ◌*◌, ◌/◌, ◌%◌, ◌∣◌, ◌≤◌, ◌<◌}
 use native.Mathlib.Nat.{dvd-mul_left, dvd-sub, dvd-add, le_of_dvd, div-mul-le_self, lt-div-mul-add}
-use native.Mathlib.Nat.{add-mod, mod-mod, mod-eq-zero_of_dvd, div-add-mod', zero-add, add_comm}
+use native.Mathlib.Nat.{mul-add-mod_self_right, div-mul_cancel, div-add-mod', add_comm}
 use native.Mathlib.Omega.{arith}
 use Rattle.model.proofs.Numbers.{order}
 use Rattle.pages.specs.Pages.{down, up}
@@ -41,11 +41,7 @@ le_down s x y h p k = go (order y (down s x))
 -- ── remainders ──
 
 multiple_mod : (s u v : ℕ) → s ∣ u → (u + v) % s ≡ v % s
-multiple_mod s u v p =
-    add-mod u v s
-    ∙ ap (λ (z : ℕ). (z + v % s) % s) (mod-eq-zero_of_dvd s p)
-    ∙ ap (λ (z : ℕ). z % s) (zero-add (v % s))
-    ∙ mod-mod v s
+multiple_mod s u v p = ap (λ (z : ℕ). (z + v) % s) (sym (div-mul_cancel s p)) ∙ mul-add-mod_self_right (u / s) s v
 
 -- an address and an offset that are both multiples of s differ as address and offset of the mapping do
 pub congruent_of : (s address offset x y : ℕ) → s ∣ x → s ∣ y → y + address ≡ offset + x → address % s ≡ offset % s
