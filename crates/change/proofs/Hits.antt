@@ -8,7 +8,7 @@ use Prim.Native.Nat.{ℕ, zero, suc, ◌+◌, ◌-◌, ◌≤◌, ◌<◌, min, 
 use native.Mathlib.Omega.{arith}
 use lib.ListN.{length, take, drop, take-append-drop, length-append, length-drop}
 use lib.Seq.{drop-drop, take-append_seam, length-take-le}
-use borrow.Author.Tests.{le-leb, lt-leb, ltb-false}
+use borrow.Author.Tests.{le-leb, lt-leb, ltb-false, ne_eqb}
 use Rattle.model.specs.declared.Mapping.{Mapping}
 use Rattle.model.specs.declared.Request.{Request}
 use Rattle.model.specs.Rules.{end, stop}
@@ -26,11 +26,26 @@ use Rattle.table.specs.declared.Replacement.{Replacement}
 use Rattle.table.specs.Splice.{mappings_of, spliced}
 use Rattle.table.proofs.Places.{valid_chain, valid_at}
 use Rattle.table.proofs.First.{first_most, first_before}
-use Rattle.table.proofs.Parts.{part, part_none, parts}
+use Rattle.std.proofs.Common.{Option, Some, None, eqb}
+use Rattle.model.specs.Rows.{choose}
+use Rattle.model.specs.Cut.{sized}
+use Rattle.cut.specs.Operations.{some_left}
+use Rattle.table.proofs.Parts.{part}
 use Rattle.table.proofs.Between.{between_none, between_first, between_next, length-between, from_between}
 use Rattle.cut.specs.Operations.{Hit, Cuttable, hit_operations, operations_for}
 use Rattle.change.specs.Change.{Placed}
 use Rattle.change.proofs.Runs.{run_drop, run-left, each_left, run_before, ends_before, ends-behind, starts-behind, hits-append, hits_none, hits-all}
+
+-- what is left of a mapping, if anything is
+left_is : (m : Mapping) → part (some_left m) ≡ prepend m []
+left_is m = go m.size
+  where
+    go : (n : ℕ) → part (choose (eqb n 0) None (Some m)) ≡ sized n m []
+    go zero = refl
+    go (suc n) = rw (ne_eqb (suc n) 0 (λ e. omega (arith, e)), choose) refl
+
+pub left_part : {m n : Mapping} {o : Option Mapping} → m ≡ n → o ≡ some_left m → part o ≡ prepend n []
+left_part e q = ap part q ∙ left_is _ ∙ ap (λ (k : Mapping). prepend k []) e
 
 -- what holds of each between two places holds at each place
 each_at : (P : Mapping → Type 0) (ws : List ℕ) (hi k lo : ℕ) → lo + k < hi → Each P (between ws lo hi) → P (mapping_at ws (lo + k))
@@ -199,11 +214,11 @@ module _ {r : Request} {ws : List ℕ} {lo hi : ℕ} (p : Placed r ws lo hi) whe
 
   -- ── the replacement, as it is put together ──
 
-  pub replaced_none : (n : Replacement) → lo ≡ hi → n.lower.size ≡ 0 → part n.new ≡ new r → n.upper.size ≡ 0 → mappings_of n ≡ after r hit
-  replaced_none n e l m u = parts n ∙ rw (part_none n.lower l, m, part_none n.upper u, after_none e) (append-nil (new r))
+  pub replaced_none : (m : Option Mapping) → lo ≡ hi → part m ≡ new r → mappings_of (record { lower = None; new = m; upper = None }) ≡ after r hit
+  replaced_none m e p = rw (p, after_none e) (append-nil (new r))
 
   pub replaced : {f l : Mapping} (n : Replacement) → (lo ≡ hi → ⊥) → f ≡ mapping_at ws lo → l ≡ mapping_at ws (hi - 1)
-      → n.lower ≡ lower_part a f → part n.new ≡ new r → n.upper ≡ upper_part b l → mappings_of n ≡ after r hit
+      → part n.lower ≡ prepend (lower_part a f) [] → part n.new ≡ new r → part n.upper ≡ prepend (upper_part b l) [] → mappings_of n ≡ after r hit
   replaced n ne ef el elower enew eupper =
       let h : lo < hi = omega (arith, low_high, ne) in
-      parts n ∙ rw (elower, enew, eupper, after_some h ef el)
+      rw (elower, enew, eupper, after_some h ef el)

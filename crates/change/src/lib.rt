@@ -2,15 +2,15 @@
 // refuses it, in the table or for its operations.
 #![tactic(auto)]
 
-ghost use Rattle.std.specs.Prelude.{◌≡◌, [], ◌<◌};
-ghost use Rattle.model.specs.Cut.{prepend, new, after};
+ghost use Rattle.std.specs.Prelude.{◌≡◌};
+ghost use Rattle.model.specs.Cut.{after};
 ghost use Rattle.table.specs.Places.{lent, between};
 ghost use Rattle.table.specs.Splice.{mappings_of};
 ghost use Rattle.model.specs.Calls.{reply_of};
 ghost use Rattle.change.specs.Change.{Ready, FirstBehind, Placed, BehindHits, changed};
 
 use cut::Cut;
-use model::{Mapping, Refusal, Request};
+use model::{Refusal, Request};
 use table::Replacement;
 
 // What carrying out a request made: so many operations, and a table of so many mappings.
@@ -18,20 +18,6 @@ use table::Replacement;
 pub struct Made {
     pub operations: usize,
     pub count: usize,
-}
-
-// The new mapping of a request; of an unmap one of size 0, which is none. Only the size tells, so that the other words need no conditional move.
-fn new_or_none(r: Request) -> Mapping
-    requires { 0 < r.size }
-    ensures { prepend result [] ≡ new r }
-{
-    match cut::new(r) {
-        Some(m) => m,
-        None => Mapping {
-            size: 0,
-            ..cut::new_mapping(r)
-        },
-    }
 }
 
 // The place behind the mappings that a request hits, of which the first is at place `lo`: there the first stands that starts
@@ -49,20 +35,20 @@ fn replacement(hit: Cut, t: &[u64]) -> Replacement
     requires { Placed hit.request t.now hit.lo hit.hi }
     ensures { mappings_of result ≡ after hit.request (between t.now hit.lo hit.hi) }
 {
-    let new = new_or_none(hit.request);
+    let new = cut::new(hit.request);
     if hit.lo == hit.hi {
         return Replacement {
-            lower: Mapping::default(),
+            lower: None,
             new,
-            upper: Mapping::default(),
+            upper: None,
         };
     }
     let first = table::read_mapping(t, hit.lo);
     let last = table::read_mapping(t, hit.hi - 1);
     Replacement {
-        lower: cut::lower_part(hit.request, first),
+        lower: cut::some_left(cut::lower_part(hit.request, first)),
         new,
-        upper: cut::upper_part(hit.request, last),
+        upper: cut::some_left(cut::upper_part(hit.request, last)),
     }
 }
 

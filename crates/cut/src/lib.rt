@@ -126,7 +126,7 @@ pub fn upper_part(r: Request, m: Mapping) -> Mapping
 }
 
 // A part of a mapping, unless nothing is left.
-fn some_left(part: Mapping) -> Option<Mapping>
+pub fn some_left(part: Mapping) -> Option<Mapping>
     ensures { result ≡ some_left part }
 {
     (part.size != 0).then_some(part)

@@ -1,14 +1,14 @@
 -- Mappings of a table replaced by others.
 -- Assumes nothing.
-use Rattle.std.specs.Prelude.{List, [], ◌++◌, ℕ, ◌+◌, ◌-◌, ◌*◌, ◌≤◌, length, take, drop}
+use Rattle.std.specs.Prelude.{List, ◌++◌, ℕ, ◌+◌, ◌-◌, ◌*◌, ◌≤◌, length, take, drop}
 use Rattle.model.specs.declared.Mapping.{Mapping}
-use Rattle.model.specs.Cut.{prepend}
+use Rattle.std.specs.Option.{option_to_list}
 use Rattle.words.specs.Words.{ZeroFrom}
 use Rattle.table.specs.declared.Replacement.{Replacement}
 
 -- those that are there
 abbrev pub mappings_of : Replacement → List Mapping
-mappings_of n = prepend n.lower (prepend n.new (prepend n.upper []))
+mappings_of n = option_to_list n.lower ++ (option_to_list n.new ++ option_to_list n.upper)
 
 -- those from place lo up to hi give way to others
 abbrev pub spliced : List Mapping → ℕ → ℕ → List Mapping → List Mapping

@@ -6,7 +6,8 @@ ghost use mathlib.Core.List.{flat_map};
 ghost use Rattle.model.specs.Rules.{limit, end};
 ghost use Rattle.model.specs.declared.Mapping.{Mapping};
 ghost use Rattle.model.specs.Table.{mapping_from, mappings_in, words_of, written, bad_place};
-ghost use Rattle.model.specs.Cut.{prepend, in_space_tests, see};
+ghost use Rattle.std.specs.Option.{option_to_list};
+ghost use Rattle.model.specs.Cut.{in_space_tests, see};
 ghost use Rattle.model.specs.Rows.{all};
 ghost use Rattle.words.specs.Words.{stored, cleared, ZeroFrom};
 ghost use Rattle.table.specs.Halving.{binary_digits, middle, halved, at, step, halving, Halvable, InOrder, Steppable};
@@ -17,12 +18,12 @@ ghost use Rattle.table.specs.Splice.{mappings_of, spliced, Splice};
 use model::{Mapping, Seen, Shown, Space};
 
 // What takes the place of mappings: what is left of the first below a range, the new mapping, what is left of the last above
-// it. One of size 0 is none.
+// it.
 #[derive(Clone, Copy)]
 pub struct Replacement {
-    pub lower: Mapping,
-    pub new: Mapping,
-    pub upper: Mapping,
+    pub lower: Option<Mapping>,
+    pub new: Option<Mapping>,
+    pub upper: Option<Mapping>,
 }
 
 // The mapping in the four words from word `at` on.
@@ -314,10 +315,13 @@ impl<'a> Table<'a> {
 }
 
 // 1 for a mapping, 0 for none.
-fn one_or_none(m: Mapping) -> usize
-    ensures { (result ≡ length (prepend m [])) × (result ≤ 1) }
+fn one_or_none(m: Option<Mapping>) -> usize
+    ensures { (result ≡ length (option_to_list m)) × (result ≤ 1) }
 {
-    if m.size == 0 { 0 } else { 1 }
+    match m {
+        Some(_) => 1,
+        None => 0,
+    }
 }
 
 // How many mappings take the place.
@@ -327,14 +331,14 @@ pub fn replacement_length(new: Replacement) -> usize
     one_or_none(new.lower) + one_or_none(new.new) + one_or_none(new.upper)
 }
 
-// Writes a mapping at place `i`, unless it is none; answers the place behind.
-fn write_part(t: &mut [u64], i: usize, m: Mapping) -> usize
-    requires { 4 * (i + length (prepend m [])) ≤ length t.old }
-    ensures { (t.new ≡ stored t.old (4 * i) (flat_map words_of (prepend m []))) × (result ≡ i + length (prepend m [])) }
+// Writes a mapping at place `i`, if there is one; answers the place behind.
+fn write_part(t: &mut [u64], i: usize, part: Option<Mapping>) -> usize
+    requires { 4 * (i + length (option_to_list part)) ≤ length t.old }
+    ensures { (t.new ≡ stored t.old (4 * i) (flat_map words_of (option_to_list part))) × (result ≡ i + length (option_to_list part)) }
 {
-    if m.size == 0 {
+    let Some(m) = part else {
         return i;
-    }
+    };
     write_mapping(t, i, m);
     i + 1
 }

@@ -1,12 +1,11 @@
 use Prim.Native.Nat.{◌-◌}
+use mathlib.Core.Path.{ap, ◌∙◌}
 use native.Mathlib.Omega.{arith}
-use Rattle.change.proofs.Hits.{low_high, cuttable, replaced_none, replaced}
+use Rattle.change.proofs.Hits.{low_high, cuttable, left_part, replaced_none, replaced}
 use Rattle.change.proofs.replacement.Goals as goal
 
 pub returns-then-hit : goal.returns-then-hit
-returns-then-hit c =
-    replaced_none c.requires (record { lower = c.default.result; new = c.new_or_none-new.result; upper = c.default-then-hit.result }) c.if-hit.true
-    c.default.ensures.1.0 c.new_or_none-new.ensures c.default-then-hit.ensures.1.0
+returns-then-hit c = replaced_none c.requires c.new-new.result c.if-hit.true c.new-new.ensures
 
 pub read_mapping-first-requires : goal.read_mapping-first-requires
 read_mapping-first-requires c = let p = c.requires in omega (arith, low_high p, p.table.held, c.if-hit.false)
@@ -24,5 +23,5 @@ upper_part-requires c =
 
 pub returns : goal.returns
 returns c =
-    replaced c.requires (record { lower = c.lower_part.result; new = c.new_or_none-new.result; upper = c.upper_part.result }) c.if-hit.false
-    c.read_mapping-first.ensures c.read_mapping-last.ensures c.lower_part.ensures c.new_or_none-new.ensures c.upper_part.ensures
+    replaced c.requires (record { lower = c.some_left.result; new = c.new-new.result; upper = c.some_left-2.result }) c.if-hit.false
+    c.read_mapping-first.ensures c.read_mapping-last.ensures (left_part c.lower_part.ensures c.some_left.ensures) c.new-new.ensures (left_part c.upper_part.ensures c.some_left-2.ensures)
