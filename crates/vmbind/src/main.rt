@@ -49,6 +49,7 @@ impl fmt::Display for Failure {
 
 // What the program holds, and its buffers. The unread bytes stand in the input from `from` up to `to`; no more come if they
 // are the last. The last round printed so many bytes, at the front of the output, and the system took so many of them.
+// Places beside the arrays: there is no heap, and no struct holds a slice of its own array.
 #[derive(Drop)]
 struct Run {
     progress: Progress,
@@ -123,7 +124,8 @@ impl Run {
         self.printed = turned.end;
     }
 
-    // Hands over the rest of what was printed, until the system has taken all of it.
+    // Hands over the rest of what was printed, until the system has taken all of it. Not by `write_all`, which does not tell
+    // how much was taken before an error, as `Writes` does.
     fn write_out(&mut self, stdout: Stdout) -> Result<(), Failure>
         requires { (self.old.written ≤ self.old.printed) × (self.old.printed ≤ length self.old.output) }
         ensures { Writes self.old result self.new }

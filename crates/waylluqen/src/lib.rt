@@ -1,4 +1,5 @@
 // The C boundary: what a C or Rust driver links. host/include/waylluqen.h declares it.
+// Numbers for refusals and for what is shown, and counts beside slices, are the C interface's.
 #![tactic(auto)]
 
 ghost use Rattle.std.specs.Prelude.{◌≡◌};
