@@ -14,7 +14,7 @@ use Rattle.model.specs.Rules.{space_tests}
 use Rattle.program.specs.Script.{record_at, State, emptied, refusal, response_told, step_on, step}
 use Rattle.program.proofs.Records.{record_fits}
 use Rattle.script.specs.declared.Program.{Program}
-use Rattle.script.specs.Steps.{state_of}
+use Rattle.script.specs.Progress.{state_of}
 use Rattle.script.specs.Program.{held, Does}
 
 module _ (s : Space) (rs : List ℕ) (n : ℕ) (ws : List ℕ) (count : ℕ) (os bs : List ℕ) where

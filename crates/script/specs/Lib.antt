@@ -1,4 +1,3 @@
-pub mod Steps
 pub mod Progress
 pub mod Program
 pub mod Streaming

@@ -2,16 +2,17 @@
 -- Assumes nothing.
 use Rattle.std.specs.Prelude.{◌≡◌, ◌⊎◌, Bool, true, false, List, [], ◌++◌, ℕ, zero, suc, ◌+◌, ◌*◌, ◌^◌, ◌≤◌, ◌<◌, length, take, drop}
 use Rattle.std.specs.Prelude.{None, Option, Some}
+use Rattle.model.specs.declared.Space.{Space}
 use Rattle.model.specs.declared.Operation.{Operation}
 use Rattle.model.specs.Rows.{choose}
 use Rattle.model.specs.Layout.{operation_in}
 use Rattle.program.specs.declared.ScriptRecord.TheVariants.{Cut, End}
 use Rattle.program.specs.Text.{operation_lines}
 use Rattle.program.specs.Script.{State, Told, emptied, granted, shows, refusal, other_mark, cut, ended, record_at, run, leaves, start}
+use Rattle.request.specs.Bound.{lent_words}
 use Rattle.words.specs.Words.{stored}
 use Rattle.script.specs.declared.Progress.{Progress}
 use Rattle.script.specs.declared.Turned.{Turned}
-use Rattle.script.specs.Steps.{state_of}
 
 -- the i-th operation in the words of the operation slice, if they are one, and its lines
 abbrev pub operation_at : List ℕ → ℕ → Option Operation
@@ -35,6 +36,10 @@ Known os i (suc n) = ((o : Operation) × (operation_at os i ≡ Some o)) × Know
 pub record Outstanding (os : List ℕ) (next left : ℕ) : Type 0 where
   pub within : 14 * (next + left) ≤ length os
   pub known : Known os next left
+
+-- a space, the list's words and count, the table's, and the words for operations
+abbrev pub state_of : Space → List ℕ → ℕ → List ℕ → ℕ → List ℕ → State
+state_of s rs n ws count os = record { space = s; lent = lent_words rs n ws count; operations = os }
 
 -- what the program holds: progress, and the words of the list, the table and the operations
 abbrev pub held_by : Progress → List ℕ → List ℕ → List ℕ → State

@@ -272,7 +272,8 @@ pub struct Turned {
     pub end: usize,
 }
 
-// Turns, until the output is nearly full or there is nothing to print from the bytes at hand.
+// Turns, until the output is nearly full or there is nothing to print from the bytes at hand. The slices are lent one by one, as
+// `Prints` (specs/Streaming) has them.
 pub fn advance(
     p: Progress,
     ranges: &mut [u64],
