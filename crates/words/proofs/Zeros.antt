@@ -4,11 +4,12 @@ use mathlib.Core.Path.{◌≡◌, refl, sym, ap, ◌∙◌}
 use mathlib.Core.List.{List, [], ◌∷◌}
 use Prim.Native.Nat.{ℕ, zero, suc, ◌*◌, ◌+◌, ◌-◌, ◌≤◌, ◌<◌}
 use native.Mathlib.Omega.{arith}
+use Rattle.std.proofs.lemmas.List.{take-replicate, drop-replicate}
 use Rattle.std.specs.List.{fold}
 use Rattle.std.specs.Simd.{first_chunks}
 use lib.Bits.{bit_or, or_add_and, and_le_l, and_le_r}
 use lib.ListN.{length, get_or, take, drop, replicate, take-append-drop, length-drop, length-replicate, replicate-append-replicate}
-use lib.Seq.{length-take-le, take_at, drop_at, take-add, take-take, take-length, drop-drop, drop-cons}
+use lib.Seq.{length-take-le, take-add, take-take, take-length, drop-drop, drop-cons}
 use Rattle.words.specs.Words.{stored, cleared, Zeros, ZeroFrom, Tells, Blank, Joins}
 use borrow.Author.Rules.{rules}
 use Rattle.words.proofs.Stored.{drop-take, drop-stored, length-stored, cleared_twice}
@@ -19,14 +20,6 @@ or-zero a b e = (omega (arith, e, or_add_and a b, and_le_r a b), omega (arith, e
 zero_or : (a b : ℕ) → a ≡ 0 → b ≡ 0 → bit_or a b ≡ 0
 zero_or a b p q = omega (arith, p, q, or_add_and a b)
 
-take_zeros : (n m : ℕ) → take {A = ℕ} n (replicate (n + m) 0) ≡ replicate n 0
-take_zeros n m =
-    rw (← replicate-append-replicate {A = ℕ} n m 0) (take_at (replicate n 0) (replicate m 0) n (length-replicate n 0))
-
-drop_zeros : (n m : ℕ) → drop {A = ℕ} n (replicate (n + m) 0) ≡ replicate m 0
-drop_zeros n m =
-    rw (← replicate-append-replicate {A = ℕ} n m 0) (drop_at (replicate n 0) (replicate m 0) n (length-replicate n 0))
-
 module _ (ws : List ℕ) (from : ℕ) where
   -- ── words and those behind them ──
 
@@ -35,12 +28,13 @@ module _ (ws : List ℕ) (from : ℕ) where
 
   zeros_first : (n m : ℕ) → Zeros ws from (n + m) → Zeros ws from n
   zeros_first n m z =
-      sym (take-take n (n + m) (drop from ws) (omega arith)) ∙ ap (take n) z ∙ take_zeros n m
+      sym (take-take n (n + m) (drop from ws) (omega arith)) ∙ ap (take n) z ∙ take-replicate n (n + m) 0 (omega arith)
 
   zeros_second : (n m : ℕ) → from + n ≤ length ws → Zeros ws from (n + m) → Zeros ws (from + n) m
   zeros_second n m h z =
       let l : n ≤ length (drop from ws) = simp length-drop (omega arith) in
-      rw (← drop-drop n from ws) (sym (drop-take n m (drop from ws) l) ∙ ap (drop n) z ∙ drop_zeros n m)
+      let e : n + m - n ≡ m = omega arith in
+      rw (← drop-drop n from ws) (sym (drop-take n m (drop from ws) l) ∙ ap (drop n) z ∙ rw e at (drop-replicate {X = ℕ} n (n + m) 0))
 
   both_tell : {a b : ℕ} (n m : ℕ) → from + n ≤ length ws → Tells ws from n a → Tells ws (from + n) m b
       → Tells ws from (n + m) (bit_or a b)
@@ -97,8 +91,8 @@ module _ (ws : List ℕ) (from : ℕ) where
   pub zero_later : (to : ℕ) → from ≤ to → to ≤ length ws → ZeroFrom ws from → ZeroFrom ws to
   zero_later to h k z =
       let d : from + (to - from) ≡ to = omega arith in
-      let n : length ws - from ≡ (to - from) + (length ws - to) = omega arith in
-      rw d at (sym (drop-drop (to - from) from ws)) ∙ ap (drop (to - from)) (z ∙ rw n) ∙ drop_zeros (to - from) (length ws - to)
+      let n : length ws - from - (to - from) ≡ length ws - to = omega arith in
+      rw d at (sym (drop-drop (to - from) from ws)) ∙ ap (drop (to - from)) z ∙ rw n at (drop-replicate {X = ℕ} (to - from) (length ws - from) 0)
 
 -- four words, each joined with its own
 pub words_join : (ws : List ℕ) (at : ℕ) (seen : List ℕ) → at + 4 ≤ length ws → Joins seen ws at 4 (
