@@ -1,9 +1,11 @@
 -- One request in its turn, by what its rows say; and what a grant keeps.
 -- Assumes nothing.
 use mathlib.Core.Path.{◌≡◌, refl, sym, ap, subst, ◌∙◌}
+use mathlib.Core.Logic.{inl, inr}
 use mathlib.Core.List.{List, ◌++◌}
 use Prim.Native.Nat.{ℕ, ◌*◌, ◌≤◌}
 use native.Mathlib.Omega.{arith}
+use lib.Dec.{eqb, eqb→eq}
 use lib.ListN.{length}
 use Rattle.model.specs.declared.Request.{Request}
 use Rattle.model.specs.declared.Space.{Space}
@@ -13,7 +15,7 @@ use Rattle.model.specs.Table.{Table, capacity, mappings, bad_place}
 use Rattle.model.specs.Cut.{after}
 use Rattle.model.specs.Calls.{numbered, refusal_reply}
 use Rattle.model.specs.Demand3.{Holds}
-use Rattle.model.proofs.Tests.{tests}
+use Rattle.model.proofs.Tests.{tests, or_cases}
 use Rattle.model.proofs.Rows.{passed_split, answered_passed, and_then, decide-append}
 use Rattle.model.proofs.Groups.{form_passed, request_passed}
 use Rattle.model.proofs.Chain.{Chain}
@@ -34,6 +36,12 @@ use Rattle.request.specs.Bound.{Checked, bound_known}
 use Rattle.batch.specs.Turns.{one}
 
 -- ── by what the record says ──
+
+-- past 14 a request has no flags
+pub no_flags : (r : Request) → answered tt ≡ verdict (form_rows 0 r) → r.flags ≡ 0
+no_flags r e =
+    let k = form_passed 0 r (answered_passed (form_rows 0 r) tt tt (sym e)).0 in
+    elim (or_cases (eqb r.flags 0) (eqb r.flags 0) k.flags.0) [ inl e ↦ eqb→eq _ 0 e | inr e ↦ eqb→eq _ 0 e ]
 
 module _ (s : Space) (t : Table) (os : List ℕ) where
   abbrev by : Request → List Row → Changed
