@@ -43,15 +43,6 @@ rests_for (Some l) None = Some (Lower l)
 rests_for None (Some u) = Some (Upper u)
 rests_for (Some l) (Some u) = Some (Both l u)
 
--- the other way: an absent rest as a mapping, the lower rest and the upper one
-abbrev pub absent_rest : Mapping
-absent_rest = record { address = 0; size = 0; object = 0; offset = 0 }
-
-abbrev pub both_parts : Rests → Mapping × Mapping
-both_parts (Lower l) = (l, absent_rest)
-both_parts (Upper u) = (absent_rest, u)
-both_parts (Both l u) = (l, u)
-
 -- the operations of these mappings, all hit; and of a request that hits them
 unfoldable pub hit_operations : Request → List Mapping → List Operation
 hit_operations r hs = map (operation_of r) hs

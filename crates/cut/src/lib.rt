@@ -2,17 +2,17 @@
 // operations of a request.
 #![tactic(auto)]
 
-ghost use Rattle.std.specs.Prelude.{◌≡◌, ◌+◌, ◌-◌, ◌*◌, ◌^◌, ◌≤◌, ◌<◌, leb, length};
+ghost use Rattle.std.specs.Prelude.{◌≡◌, ◌∷◌, ◌++◌, ◌+◌, ◌-◌, ◌*◌, ◌^◌, ◌≤◌, ◌<◌, leb, length};
 ghost use Rattle.std.specs.Option.{option_to_list};
 ghost use mathlib.Core.List.{flat_map};
-ghost use Rattle.model.specs.Rows.{all};
+ghost use Rattle.model.specs.Rows.{all, choose};
 ghost use Rattle.model.specs.Rules.{limit, stop};
 ghost use Rattle.model.specs.Cut.{lower_part, upper_part, mapping_of, new, displacement, agree_tests, keep_mark, operation_of};
-ghost use Rattle.model.specs.Table.{mapping_from};
+ghost use Rattle.model.specs.Table.{mapping_from, words_of};
 ghost use Rattle.model.specs.Layout.{words_of_operation, operation_by, operation_in};
 ghost use Rattle.words.specs.Words.{stored};
 ghost use Rattle.table.specs.Places.{between};
-ghost use Rattle.cut.specs.Operations.{Cuttable, Bounded, some_left, rest_in, rests_for, both_parts, hit_operations, operations_for, Hits};
+ghost use Rattle.cut.specs.Operations.{Cuttable, Bounded, some_left, rest_in, rests_for, hit_operations, operations_for, Hits};
 
 use model::{Mapping, Operation, Request, Rests};
 
@@ -156,27 +156,21 @@ fn operation_of(r: Request, m: Mapping) -> Operation
     }
 }
 
-// The rests of a remap, lower and upper.
-fn both_parts(rests: Rests) -> (Mapping, Mapping)
-    ensures { result ≡ both_parts rests }
+// Writes the words of an operation from word `at` on: kind, keep, the old mapping (a map's new one), the lower rest, the upper
+// rest.
+fn write_parts(
+    operations: &mut [u64],
+    at: usize,
+    kind: u64,
+    keep: bool,
+    old: Mapping,
+    lower: Mapping,
+    upper: Mapping,
+)
+    requires { at + 14 ≤ length operations.old }
+    ensures { operations.new ≡ stored operations.old at (kind ∷ choose keep 1 0 ∷ (words_of old ++ (words_of lower ++ words_of upper))) }
 {
-    match rests {
-        Rests::Lower(l) => (l, ABSENT),
-        Rests::Upper(u) => (ABSENT, u),
-        Rests::Both(l, u) => (l, u),
-    }
-}
-
-// An operation in words: kind, keep, the old mapping (a map's new one), the lower rest, the upper rest.
-fn words_of(operation: Operation) -> [u64; OPERATION_WORDS]
-    ensures { result ≡ words_of_operation operation }
-{
-    let (kind, keep, old, (lower, upper)) = match operation {
-        Operation::Map(m) => (MAP, false, m, (ABSENT, ABSENT)),
-        Operation::Remap(keep, m, rests) => (REMAP, keep, m, both_parts(rests)),
-        Operation::Unmap(keep, m) => (UNMAP, keep, m, (ABSENT, ABSENT)),
-    };
-    [
+    let words = [
         kind,
         u64::from(keep),
         old.address,
@@ -191,15 +185,25 @@ fn words_of(operation: Operation) -> [u64; OPERATION_WORDS]
         upper.size,
         upper.object,
         upper.offset,
-    ]
+    ];
+    words::store(operations, at, &words)
 }
 
-// Writes an operation's words from word `at` on.
+// Writes an operation's words from word `at` on, each case by itself: joined in one array first, they took 14 instructions more
+// for each mapping hit.
 fn write_operation(operations: &mut [u64], at: usize, operation: Operation)
     requires { at + 14 ≤ length operations.old }
     ensures { operations.new ≡ stored operations.old at (words_of_operation operation) }
 {
-    words::store(operations, at, &words_of(operation))
+    match operation {
+        Operation::Map(m) => write_parts(operations, at, MAP, false, m, ABSENT, ABSENT),
+        Operation::Remap(keep, m, rests) => match rests {
+            Rests::Lower(l) => write_parts(operations, at, REMAP, keep, m, l, ABSENT),
+            Rests::Upper(u) => write_parts(operations, at, REMAP, keep, m, ABSENT, u),
+            Rests::Both(l, u) => write_parts(operations, at, REMAP, keep, m, l, u),
+        },
+        Operation::Unmap(keep, m) => write_parts(operations, at, UNMAP, keep, m, ABSENT, ABSENT),
+    }
 }
 
 // The rest in the four words from word `at` on; four zeros are none.
