@@ -1,7 +1,7 @@
 // The 40-byte request record, decoded: little-endian numbers.
 #![tactic(auto)]
 
-ghost use Rattle.std.specs.Prelude.{◌≡◌, ◌+◌, ◌≤◌, length};
+ghost use Rattle.std.specs.Prelude.{◌≡◌, ◌+◌, ◌≤◌, length, take, drop};
 ghost use Rattle.model.specs.Calls.{request_of, decode, reply_of};
 ghost use Rattle.record.specs.Number.{NumberAt};
 
@@ -9,24 +9,26 @@ use model::{Refusal, Request};
 
 pub const RECORD_BYTES: usize = 40;
 
-// The number in N bytes from a place on.
-#[tactic(auto, using(crate::proofs::Bytes::read_none, crate::proofs::Bytes::read_more))]
-fn number_at<const N: usize>(bytes: &[u8], at: usize) -> u64
-    requires { (at + N ≤ length bytes.now) × (N ≤ 8) }
-    ensures { NumberAt bytes.now at N result }
+// N bytes from a place on.
+fn bytes_at<const N: usize>(bytes: &[u8], at: usize) -> [u8; N]
+    requires { at + N ≤ length bytes.now }
+    ensures { result ≡ take N (drop at bytes.now) }
 {
-    let mut number = 0;
-    for b in bytes[at..at + N].iter().rev() {
-        number = 0x100 * number + u64::from(*b);
-    }
-    number
+    bytes[at..at + N].try_into().unwrap()
+}
+
+fn u32_at(bytes: &[u8], at: usize) -> u64
+    requires { at + 4 ≤ length bytes.now }
+    ensures { NumberAt bytes.now at 4 result }
+{
+    u64::from(u32::from_le_bytes(bytes_at(bytes, at)))
 }
 
 pub fn u64_at(bytes: &[u8], at: usize) -> u64
     requires { at + 8 ≤ length bytes.now }
     ensures { NumberAt bytes.now at 8 result }
 {
-    number_at::<8>(bytes, at)
+    u64::from_le_bytes(bytes_at(bytes, at))
 }
 
 // The fields of a whole record.
@@ -36,13 +38,13 @@ pub fn fields(bytes: &[u8]) -> Request
     ensures { result ≡ request_of bytes.now }
 {
     Request {
-        op: number_at::<4>(bytes, 0),
-        flags: number_at::<4>(bytes, 4),
-        object: number_at::<4>(bytes, 8),
-        pad: number_at::<4>(bytes, 12),
-        address: number_at::<8>(bytes, 16),
-        offset: number_at::<8>(bytes, 24),
-        size: number_at::<8>(bytes, 32),
+        op: u32_at(bytes, 0),
+        flags: u32_at(bytes, 4),
+        object: u32_at(bytes, 8),
+        pad: u32_at(bytes, 12),
+        address: u64_at(bytes, 16),
+        offset: u64_at(bytes, 24),
+        size: u64_at(bytes, 32),
     }
 }
 

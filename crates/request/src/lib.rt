@@ -81,6 +81,7 @@ impl Lent<'_> {
     }
 
     // Rows 1 to 5, 17 and 18 of a request.
+    #[inline(always)]
     fn verdict(&self, s: Space, operation_words: usize) -> Result<(), Refusal>
         ensures { reply_of result ≡ verdict (lent_rows s (operations_row operation_words (lent_of self.now).table ∷ []) (lent_of self.now)) }
     {
@@ -103,7 +104,8 @@ impl Lent<'_> {
 
 // A request whose form is right: rows 1 to 5, 17, 18 and 6 to 10. One without the flag goes on to row 11, and cuts the table
 // from the first mapping that ends behind its address on; of one with it the grant says that these passed, and what is left
-// is the list's. The list is only read.
+// is the list's. The list is only read. Inlined, and its checks: `change`, which a batch calls too, is a call that they spare.
+#[inline(always)]
 pub fn bind_request(
     s: Space,
     ranges: &[u64],
