@@ -56,9 +56,6 @@ lines_split p st bs = go (step st bs).told refl
 
 -- ── a record that waits for more bytes, and one that does not ──
 
-pub never : {A : Type 0} → true ≡ false → A
-never e = cc
-
 module _ (st : State) (bs : List ℕ) where
   -- it is cut or there is none, and nothing has changed
   Short : ScriptRecord → Type 0

@@ -17,17 +17,10 @@ use Rattle.script.specs.Streaming.{Stream, came, ended, printed}
 use Rattle.words.proofs.Stored.{drop-take, length-stored, take-stored-end}
 use Rattle.words.proofs.Moved.{length_part}
 use Rattle.script.proofs.Reading.{short_length}
-use Rattle.script.proofs.Coming.{never}
 use Rattle.vmbind.specs.declared.Failure.{Failure}
 use Rattle.vmbind.specs.declared.Failure.TheVariants.{Read, Write, TooLong}
 use Rattle.vmbind.specs.declared.Run.{Run}
 use Rattle.vmbind.specs.Buffers.{unread, come, Printed, Writes, Refilled, Held, Outcome, Ends, Moves, full, grown, closed, Carries}
-
--- a round that has ended the run does not go on
-abbrev goes : Outcome → Bool
-goes (Ok (Continue u)) = true
-goes (Ok (Break u)) = false
-goes (Err f) = false
 
 -- a round begins with nothing printed
 abbrev begun : Run → Run
@@ -37,7 +30,7 @@ begun r = record r { printed = 0; written = 0 }
 pub too_long : (run : Run) → Held run → 2 ^ 63 ≤ run.progress.place → Carries run (Err TooLong) (begun run)
 too_long run h e = record {
   ends = (refl, e);
-  moves = λ g. never (sym (ap goes g));
+  moves = λ g. cc;
   inside = omega arith;
   held = record { order = h.order; inside = h.inside; there = h.there };
   stream = λ {bs} {text} s. ([], rw (append-nil bs, append-nil text) s);
@@ -89,7 +82,7 @@ module _ (run : Run) (h : Held run) {q : Run} (p : Printed (begun run) q) where
   })
 
   pub carries_failed : {r : Run} {f : Failure} → Writes q (Err f) r → Carries run (Err Write) r
-  carries_failed w = carries_on (Err Write) w.same w.outcome.1 (λ g. never (sym (ap goes g)))
+  carries_failed w = carries_on (Err Write) w.same w.outcome.1 (λ g. cc)
 
   module _ {q' : Run} (w : Writes q (Ok tt) q') where
     printed_still : q'.printed ≡ q.printed
@@ -113,7 +106,7 @@ module _ (run : Run) (h : Held run) {q : Run} (p : Printed (begun run) q) where
           go (inr i) = i
 
       pub carries_done : q'.progress.stopped ≡ true → Carries run (Ok (Break tt)) q'
-      carries_done stopped = carries_on (Ok (Break tt)) w.same (w.outcome, sym stopped_still ∙ stopped, idle.none_left) (λ g. never (sym (ap goes g)))
+      carries_done stopped = carries_on (Ok (Break tt)) w.same (w.outcome, sym stopped_still ∙ stopped, idle.none_left) (λ g. cc)
 
       -- where the program has not stopped, it waits for more bytes
       module _ (going : q'.progress.stopped ≡ false) where
@@ -125,7 +118,7 @@ module _ (run : Run) (h : Held run) {q : Run} (p : Printed (begun run) q) where
         waiting = by idle.because
           where
             by : (q.progress.stopped ≡ true) ⊎ Waits → Waits
-            by (inl e) = never (sym e ∙ sym stopped_still ∙ going)
+            by (inl e) = cc
             by (inr k) = k
 
         more_come : q.last ≡ false
@@ -195,7 +188,7 @@ module _ (run : Run) (h : Held run) {q : Run} (p : Printed (begun run) q) where
 
         pub carries_unread : {r : Run} {g : Failure} → Refilled q' (Err g) r → Carries run (Err Read) r
         unfolding Waits
-        carries_unread {r} f = carries f (Err Read) (written, last, quiet) (λ g. never (sym (ap goes g)))
+        carries_unread {r} f = carries f (Err Read) (written, last, quiet) (λ g. cc)
           where
             written : r.written ≡ r.printed
             written = rw (filled f) w.outcome

@@ -1,6 +1,6 @@
 -- What rounds leave, and why a run is over.
 -- Assumes nothing.
-use mathlib.Core.Path.{◌≡◌, refl, sym, ap, subst, ◌∙◌}
+use mathlib.Core.Path.{◌≡◌, refl, ap, subst, ◌∙◌}
 use mathlib.Core.Logic.{inl}
 use mathlib.Core.Bool.{true, false}
 use mathlib.Core.List.{List, [], ◌++◌, append-nil}
@@ -12,7 +12,6 @@ use Rattle.std.specs.declared.ops.ControlFlow.{ControlFlow}
 use Rattle.std.specs.declared.ops.ControlFlow.TheVariants.{Continue, Break}
 use Rattle.program.specs.Script.{output}
 use Rattle.script.specs.Streaming.{Stream, begun}
-use Rattle.script.proofs.Coming.{never}
 use Rattle.script.proofs.Turning.{none_outstanding}
 use Rattle.script.proofs.Streaming.{prints}
 use Rattle.vmbind.specs.declared.Failure.{Failure}
@@ -61,8 +60,8 @@ module _ {n : ℕ} {text : List ℕ} {run r : Run} (s : Rounds n text (Ok (Conti
 
   pub ran_done : {k : ControlFlow (Unit {0}) (Unit {0})} → Carries run (Ok k) r → is_some (break_value k) ≡ true → Ran (Ok tt) r
   ran_done {k = Break u} c e = ran (Ok tt) (next s c) c.ends
-  ran_done {k = Continue u} c e = never (sym e)
+  ran_done {k = Continue u} c e = cc
 
 pub goes_on : {k : ControlFlow (Unit {0}) (Unit {0})} → is_some (break_value k) ≡ false → k ≡ Continue tt
 goes_on {k = Continue u} e = refl
-goes_on {k = Break u} e = never e
+goes_on {k = Break u} e = cc
