@@ -45,7 +45,8 @@ fn lent_verdict(
 }
 
 // A request in its turn: rows 13 and 14, of which no flag is served, 6 to 11 and 16, or the table cut and the operations
-// from the first word on. The first mapping that ends behind its address is at `place`.
+// from the first word on. The first mapping that ends behind its address is at `place`. Table, count and operations are no
+// struct: each turn is lent another part of the operations, and it would be put together anew for each.
 fn turn(
     s: Space,
     table: &mut [u64],

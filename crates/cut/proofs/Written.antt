@@ -1,10 +1,11 @@
 -- Operations written one behind the other.
 -- Assumes nothing.
-use mathlib.Core.Path.{◌≡◌, refl, sym, ap, ◌∙◌}
+use mathlib.Core.Path.{◌≡◌, sym, ap, ◌∙◌}
 use mathlib.Core.List.{List, [], ◌∷◌, ◌++◌, map, flat_map, append-nil}
 use Prim.Native.Nat.{ℕ, ◌+◌, ◌-◌, ◌*◌, ◌≤◌}
 use native.Mathlib.Omega.{arith}
 use lib.ListN.{length, length-append, length-map}
+use Rattle.std.proofs.lemmas.List.{map-append}
 use Rattle.model.specs.declared.Mapping.{Mapping}
 use Rattle.model.specs.declared.Request.{Request}
 use Rattle.model.specs.declared.Operation.{Operation}
@@ -42,11 +43,7 @@ hits-start {r} {ws} {lo} {vs} = record { is = rw (between_none ws lo) (sym (stor
 module _ (r : Request) (ws : List ℕ) (lo i : ℕ) {m : Mapping} (h : lo ≤ i) (e : m ≡ mapping_at ws i) where
   hits_snoc : hit_operations r (between ws lo (i + 1)) ≡ hit_operations r (between ws lo i) ++ (operation_of r m ∷ [])
   unfolding hit_operations
-  hits_snoc = ap (map (operation_of r)) (between_next ws lo i h e) ∙ map_snoc (between ws lo i)
-    where
-      map_snoc : (hs : List Mapping) → map (operation_of r) (hs ++ (m ∷ [])) ≡ map (operation_of r) hs ++ (operation_of r m ∷ [])
-      map_snoc [] = refl
-      map_snoc (n ∷ hs) = ap (◌∷◌ (operation_of r n)) (map_snoc hs)
+  hits_snoc = ap (map (operation_of r)) (between_next ws lo i h e) ∙ map-append (operation_of r) (between ws lo i) (m ∷ [])
 
 pub hits_next : {r : Request} {ws : List ℕ} {lo i : ℕ} {vs us ts : List ℕ} {m : Mapping} {o : Operation} → lo ≤ i → m ≡ mapping_at ws i → o ≡ operation_of r m
     → ts ≡ stored us (14 * (i - lo)) (words_of_operation o) → HitsTo r ws lo vs us i → HitsTo r ws lo vs ts (i + 1)

@@ -41,7 +41,7 @@ pub fn operations_fit(words: usize, capacity: usize) -> bool
     capacity < words / OPERATION_WORDS
 }
 
-// The mapping that a map asks for.
+// The mapping that a map asks for. Both types are another crate's, so this is no `From`.
 pub fn new_mapping(r: Request) -> Mapping
     ensures { result ≡ mapping_of r }
 {
@@ -53,7 +53,7 @@ pub fn new_mapping(r: Request) -> Mapping
     }
 }
 
-// The new mapping of a request: a map has one, which it asks for.
+// The new mapping of a request: a map, whose op is 0 in the record, has one, which it asks for.
 pub fn new(r: Request) -> Option<Mapping>
     ensures { option_to_list result ≡ new r }
 {
