@@ -2,7 +2,7 @@
 // tests, in their order, most with & between them: no branch. Sums are compared exactly, and none is made that could wrap.
 #![tactic(auto)]
 
-ghost use Rattle.std.specs.Prelude.{◌≡◌, ◌+◌, min, leb};
+ghost use Rattle.std.specs.Prelude.{◌≡◌, ◌+◌, leb};
 ghost use Rattle.model.specs.Rows.{all, verdict};
 ghost use Rattle.model.specs.Rules.{aligned, apart, space_tests, form_rows, request_rows, alignment_row, inside_row, object_row, offset_row};
 ghost use Rattle.model.specs.Table.{fit_tests};
@@ -39,12 +39,6 @@ fn sum_within(a: u64, b: u64, most: u64) -> bool
     ensures { result ≡ leb (a + b) most }
 {
     b <= most && a <= most - b
-}
-
-pub fn lesser(a: u64, b: u64) -> u64
-    ensures { result ≡ min a b }
-{
-    if a <= b { a } else { b }
 }
 
 // [a, a + n) and [c, c + m) share no byte: one of them ends at or before the greater start.

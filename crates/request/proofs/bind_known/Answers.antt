@@ -1,5 +1,5 @@
 use mathlib.Core.Path.{◌∙◌}
-use Rattle.std.proofs.lemmas.Result.{err_from_is_err_and}
+use Rattle.rules.proofs.Laws.{refused_on}
 use Rattle.table.specs.Places.{lent}
 use Rattle.request.proofs.Checked.{ready_known}
 use Rattle.request.proofs.Requested.{known_refused, known_changed}
@@ -13,8 +13,7 @@ change-requires c =
 pub returns-in_err-request_verdict : goal.returns-in_err-request_verdict
 returns-in_err-request_verdict c =
     let a = c.args in
-    let p = err_from_is_err_and c.from_residual.result c.from_residual.ensures.1 in
-    rw (p.1, p.2) (known_refused a.s (lent a.table.now a.count) a.operations.now a.r c.in_err-request_verdict.ensures)
+    rw (refused_on _ _ c.from_residual.ensures.1) (known_refused a.s (lent a.table.now a.count) a.operations.now a.r c.in_err-request_verdict.ensures)
 
 pub returns : goal.returns
 returns c =

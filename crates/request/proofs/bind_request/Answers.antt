@@ -1,5 +1,5 @@
 use mathlib.Core.Path.{◌∙◌, ap}
-use Rattle.std.proofs.lemmas.Result.{err_from_is_err_and}
+use Rattle.rules.proofs.Laws.{refused_on}
 use Rattle.table.specs.Places.{first_where, ends_behind}
 use Rattle.request.specs.Bound.{lent_words}
 use Rattle.request.proofs.Bound.{some, partly_passed, partly_refused}
@@ -11,15 +11,14 @@ pub returns-in_err-verdict : goal.returns-in_err-verdict
 returns-in_err-verdict c =
     let a = c.args in
     let l = lent_words a.ranges.now a.range_count a.table.now a.count in
-    let p = err_from_is_err_and c.from_residual.result c.from_residual.ensures.1 in
-    rw (p.1, p.2) (partly_refused a.s l a.operations.now a.r (checked_by a.s l _ a.r c.in_err-verdict.ensures))
+    rw (refused_on _ _ c.from_residual.ensures.1)
+    (partly_refused a.s l a.operations.now a.r (checked_by a.s l _ a.r c.in_err-verdict.ensures))
 
 pub returns-in_err-request_verdict : goal.returns-in_err-request_verdict
 returns-in_err-request_verdict c =
     let a = c.args in
     let l = lent_words a.ranges.now a.range_count a.table.now a.count in
-    let p = err_from_is_err_and c.from_residual-in_err-request_verdict.result c.from_residual-in_err-request_verdict.ensures.1 in
-    rw (p.1, p.2)
+    rw (refused_on _ _ c.from_residual-in_err-request_verdict.ensures.1)
     (partly_refused a.s l a.operations.now a.r (c.in_err-request_verdict.ensures ∙ checked_by a.s l _ a.r c.in_ok-verdict.ensures))
 
 pub returns-then-r-ne0 : goal.returns-then-r-ne0
@@ -45,8 +44,7 @@ pub returns-in_err-made : goal.returns-in_err-made
 returns-in_err-made c =
     let a = c.args in
     let l = lent_words a.ranges.now a.range_count a.table.now a.count in
-    let p = err_from_is_err_and c.from_residual-in_err-made.result c.from_residual-in_err-made.ensures.1 in
-    rw (p.1, p.2)
+    rw (refused_on _ _ c.from_residual-in_err-made.ensures.1)
     (cut_there a.s l a.operations.now a.r c.if-r-ne0.false (c.in_ok-request_verdict.ensures ∙ checked_by a.s l _ a.r c.in_ok-verdict.ensures) (rw c.in_err-made.was at c.change.ensures))
 
 pub returns : goal.returns
