@@ -3,10 +3,9 @@
 #![tactic(auto)]
 
 ghost use Rattle.std.specs.Prelude.{◌≡◌, true, [], ◌∷◌};
-ghost use Rattle.model.specs.declared.Space.{Space};
-ghost use Rattle.model.specs.Rows.{all, answered, verdict};
+ghost use Rattle.model.specs.Rows.{all, verdict};
 ghost use Rattle.model.specs.Rules.{space_tests};
-ghost use Rattle.model.specs.Table.{operations_row, table_rows};
+ghost use Rattle.model.specs.Table.{operations_row};
 ghost use Rattle.model.specs.Ranges.{list_row};
 ghost use Rattle.model.specs.Calls.{lent_rows, reply_of};
 ghost use Rattle.table.specs.Places.{lent};

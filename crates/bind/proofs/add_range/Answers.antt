@@ -12,10 +12,12 @@ overflow_add-result c =
 pub returns-in_err-add : goal.returns-in_err-add
 returns-in_err-add c =
     let a = c.args in
+    let l = lent_words a.ranges.now a.range_count a.table.now a.count in
     λ os. rw (refused_on _ _ c.from_residual.ensures.1)
-    (adds_refused a.r (lent_words a.ranges.now a.range_count a.table.now a.count) os (rw (c.in_err-add.was, c.range_of.ensures) at c.add.ensures))
+    (adds_refused a.r l os (rw (c.in_err-add.was, c.range_of.ensures) at c.add.ensures))
 
 pub returns : goal.returns
 returns c =
     let a = c.args in
-    λ os. adds_granted a.r (lent_words a.ranges.now a.range_count a.table.now a.count) os (rw (c.in_ok-add.was, c.range_of.ensures) at c.add.ensures)
+    let l = lent_words a.ranges.now a.range_count a.table.now a.count in
+    λ os. adds_granted a.r l os (rw (c.in_ok-add.was, c.range_of.ensures) at c.add.ensures)

@@ -8,21 +8,24 @@ use Rattle.bind.proofs.bind_record.Goals as goal
 pub returns-in_err-r : goal.returns-in_err-r
 returns-in_err-r c =
     let a = c.args in
+    let l = lent_words a.ranges.now a.range_count a.table.now a.count in
     rw (refused_on _ _ c.from_residual.ensures.1)
-    (bind_record_by a.s (lent_words a.ranges.now a.range_count a.table.now a.count) a.operations.now a.«record».now c.in_err-r.ensures)
+    (bind_record_by a.s l a.operations.now a.«record».now c.in_err-r.ensures)
 
 pub returns-in_err-grant : goal.returns-in_err-grant
 returns-in_err-grant c =
     let a = c.args in
+    let l = lent_words a.ranges.now a.range_count a.table.now a.count in
     rw (refused_on _ _ c.from_residual-in_err-grant.ensures.1)
-    (bind_record_by a.s (lent_words a.ranges.now a.range_count a.table.now a.count) a.operations.now a.«record».now c.in_ok-r.ensures
+    (bind_record_by a.s l a.operations.now a.«record».now c.in_ok-r.ensures
     ∙ refused_there a.s a.ranges.now a.range_count a.table.now a.count a.operations.now _ c.in_err-grant.ensures)
 
 pub returns-then-r-eq0 : goal.returns-then-r-eq0
 returns-then-r-eq0 c =
     let a = c.args in
-    bind_record_by a.s (lent_words a.ranges.now a.range_count a.table.now a.count) a.operations.now a.«record».now c.in_ok-r.ensures
-    ∙ sym (partly_plain a.s (lent_words a.ranges.now a.range_count a.table.now a.count) a.operations.now _ c.if-r-eq0.true)
+    let l = lent_words a.ranges.now a.range_count a.table.now a.count in
+    bind_record_by a.s l a.operations.now a.«record».now c.in_ok-r.ensures
+    ∙ sym (partly_plain a.s l a.operations.now _ c.if-r-eq0.true)
     ∙ c.in_ok-grant.ensures
 
 pub relist-requires : goal.relist-requires
@@ -34,6 +37,7 @@ relist-requires c =
 pub returns : goal.returns
 returns c =
     let a = c.args in
-    bind_record_by a.s (lent_words a.ranges.now a.range_count a.table.now a.count) a.operations.now a.«record».now c.in_ok-r.ensures
+    let l = lent_words a.ranges.now a.range_count a.table.now a.count in
+    bind_record_by a.s l a.operations.now a.«record».now c.in_ok-r.ensures
     ∙ bound_is a.s a.ranges.now a.range_count a.table.now a.count a.operations.now _ (some _ c.if-r-eq0.false) c.in_ok-grant.ensures
     (c.relist.ensures a.operations.now)

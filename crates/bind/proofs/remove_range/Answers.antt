@@ -15,7 +15,8 @@ use Rattle.bind.proofs.remove_range.Goals as goal
 pub returns-then-not-is_free : goal.returns-then-not-is_free
 returns-then-not-is_free c =
     let a = c.args in
-    λ os. removes_mapped a.r (lent_words a.ranges.now a.range_count a.table.now a.count) os (sym (failed (c.is_free.ensures ∙ ap (λ (ms : List Mapping). all (free_tests c.args.r.address (stop c.args.r) ms)) c.new.ensures) (ap not c.if-not-is_free.true)))
+    let l = lent_words a.ranges.now a.range_count a.table.now a.count in
+    λ os. removes_mapped a.r l os (sym (failed (c.is_free.ensures ∙ ap (λ (ms : List Mapping). all (free_tests c.args.r.address (stop c.args.r) ms)) c.new.ensures) (ap not c.if-not-is_free.true)))
 
 pub overflow_sub-result : goal.overflow_sub-result
 overflow_sub-result c =
@@ -25,9 +26,11 @@ overflow_sub-result c =
 pub returns-in_err-remove : goal.returns-in_err-remove
 returns-in_err-remove c =
     let a = c.args in
-    λ os. rw (refused_on _ _ c.from_residual.ensures.1) (removes_refused a.r (lent_words a.ranges.now a.range_count a.table.now a.count) os (sym (held (c.is_free.ensures ∙ ap (λ (ms : List Mapping). all (free_tests c.args.r.address (stop c.args.r) ms)) c.new.ensures) (ap not c.if-not-is_free.false))) (rw (c.in_err-remove.was, c.range_of.ensures) at c.remove.ensures))
+    let l = lent_words a.ranges.now a.range_count a.table.now a.count in
+    λ os. rw (refused_on _ _ c.from_residual.ensures.1) (removes_refused a.r l os (sym (held (c.is_free.ensures ∙ ap (λ (ms : List Mapping). all (free_tests c.args.r.address (stop c.args.r) ms)) c.new.ensures) (ap not c.if-not-is_free.false))) (rw (c.in_err-remove.was, c.range_of.ensures) at c.remove.ensures))
 
 pub returns : goal.returns
 returns c =
     let a = c.args in
-    λ os. removes_granted a.r (lent_words a.ranges.now a.range_count a.table.now a.count) os (sym (held (c.is_free.ensures ∙ ap (λ (ms : List Mapping). all (free_tests c.args.r.address (stop c.args.r) ms)) c.new.ensures) (ap not c.if-not-is_free.false))) (rw (c.in_ok-remove.was, c.range_of.ensures) at c.remove.ensures)
+    let l = lent_words a.ranges.now a.range_count a.table.now a.count in
+    λ os. removes_granted a.r l os (sym (held (c.is_free.ensures ∙ ap (λ (ms : List Mapping). all (free_tests c.args.r.address (stop c.args.r) ms)) c.new.ensures) (ap not c.if-not-is_free.false))) (rw (c.in_ok-remove.was, c.range_of.ensures) at c.remove.ensures)
