@@ -55,19 +55,6 @@ module _ (x : Range) where
   abbrev Free : List Range → Type 0
   Free ys = Alls (map (λ y. apart y.start (range_end y) x.start (range_end x)) ys)
 
-  -- one that starts at its end or behind shares none, nor do those behind it
-  above_free : (ys : List Range) → Each (λ y. range_end x ≤ y.start) ys → Free ys
-  above_free [] h = tt
-  above_free (y ∷ ys) h = (omega (tests, h.0), above_free ys h.1)
-
-  pub first_free : (ys : List Range) (i : ℕ) (d : Range) → First x.start ys i → Spaced ys
-      → (i < length ys → range_end x ≤ (get_or ys i d).start) → Free ys
-  first_free _ _ d none s k = tt
-  first_free _ _ d (here y ys h) s k =
-      let l : range_end x ≤ y.start = k (omega arith) in
-      (omega tests, above_free ys (each_map (λ z. range_end y ≤ z.start) (λ z. range_end x ≤ z.start) ys (λ z e. omega arith) s.1.0))
-  first_free _ _ d (later y ys i h f) s k = (omega tests, first_free ys i d f (s.0.1, s.1.1) (λ l. k (omega arith)))
-
   pub free_first : (ys : List Range) (i : ℕ) (d : Range) → First x.start ys i → Spaced ys → 0 < x.size
       → Free ys → i < length ys → range_end x ≤ (get_or ys i d).start
   free_first _ _ d none s p k l = absurd (omega arith)

@@ -69,9 +69,6 @@ module _ (s : Space) (l : RangeList) where
   pub length_breaks : all (length_tests l) ≡ false → false ≡ all (list_row s l).tests
   length_breaks f = sym (all_false (length_tests l ++ behind) (λ h. not_facts (length_tests l) f (alls_split (length_tests l) behind h).0))
 
-  pub length_holds : all (length_tests l) ≡ true → 2 * l.count ≤ length l.words
-  length_holds t = let k = all_facts (length_tests l) t in omega tests
-
   pub range_breaks : all (list_tests s 0 (ranges l)) ≡ false → false ≡ all (list_row s l).tests
   range_breaks f =
       sym (all_false (length_tests l ++ behind)

@@ -61,9 +61,7 @@ pub fn keeps_rules(s: Space, list: &[u64], count: usize) -> bool
     if list.is_empty() {
         return count == 0;
     }
-    length_is_right(list, count)
-        && all_fit(s, list, count)
-        && words::are_zero_from(list, 2 * count)
+    length_is_right(list, count) && all_fit(s, list, count) && words::are_zero_from(list, 2 * count)
 }
 
 // A range as the search by halves takes it: as a mapping, whose object plays no part.
@@ -129,16 +127,10 @@ impl<'a> RangeList<'a> {
     {
         let i = self.first_ending_behind(x);
         let Some(y) = self.get(i) else {
-            return Seen {
-                shown: Shown::Nothing,
-                bytes,
-            };
+            return table::nothing(bytes);
         };
         if x < y.start {
-            return Seen {
-                shown: Shown::Nothing,
-                bytes: bytes.min(y.start - x),
-            };
+            return table::nothing(bytes.min(y.start - x));
         }
         Seen {
             shown: Shown::Sparse,

@@ -8,14 +8,15 @@ use lib.ListN.{length, drop}
 use Rattle.model.specs.declared.Mapping.{Mapping}
 use Rattle.model.specs.Rules.{limit, end}
 use Rattle.model.specs.Table.{mappings_in}
-use Rattle.model.specs.Exactly.{Each, MappingRules}
-use Rattle.model.proofs.Actions.{each_map}
+use Rattle.model.specs.Exactly.{Each}
 use Rattle.model.proofs.Store.{length-mappings}
 use Rattle.table.specs.declared.Search.{Search}
 use Rattle.table.specs.Places.{first_where, ends_behind, Valid}
 use Rattle.table.specs.Halving.{middle, at, step, halving, Halvable, InOrder, Steppable}
-use Rattle.table.proofs.Places.{at_place, from_place, each_at, valid_rules, valid_ascends}
+use Rattle.table.proofs.Places.{at_place, from_place, each_at, valid_ascends}
+use Rattle.table.specs.Kept.{kept_order}
 use Rattle.table.proofs.First.{first_most}
+use Rattle.table.proofs.Kept.{widest_kept}
 use Rattle.table.proofs.Ends.{ends-behind}
 use Rattle.table.proofs.Digits.{binary-digits}
 use Rattle.table.proofs.Halving.{finds, Left, left_some, left_step}
@@ -56,11 +57,7 @@ module _ {ws : List ℕ} {n : ℕ} (v : Valid ws n) where
   ms = mappings_in n ws
 
   pub valid_order : InOrder ms
-  valid_order = record {
-    not_empty = each_map (MappingRules v.space) (λ m. 0 < m.size) ms (λ m r. omega (arith, r.size_least)) (valid_rules v).0;
-    ascends = valid_ascends v;
-    ends_most = each_map (MappingRules v.space) (λ m. end m ≤ limit) ms (λ m r. omega (arith, r.within, v.top)) (valid_rules v).0;
-  }
+  valid_order = kept_order ws n (widest_kept v)
 
   module _ (x : ℕ) where
     abbrev first : ℕ

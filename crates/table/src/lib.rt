@@ -8,6 +8,7 @@ ghost use Rattle.model.specs.declared.Mapping.{Mapping};
 ghost use Rattle.model.specs.Table.{mapping_from, mappings_in, words_of, written, bad_place};
 ghost use Rattle.std.specs.Option.{option_to_list};
 ghost use Rattle.model.specs.Cut.{in_space_tests, see};
+ghost use Rattle.model.specs.Lookups.{nothing};
 ghost use Rattle.model.specs.Rows.{all};
 ghost use Rattle.words.specs.Words.{stored, cleared, ZeroFrom};
 ghost use Rattle.table.specs.Halving.{binary_digits, middle, halved, at, step, halving, Halvable, InOrder, Steppable};
@@ -26,7 +27,7 @@ pub struct Replacement {
     pub upper: Option<Mapping>,
 }
 
-// The mapping in the four words from word `at` on.
+// The mapping in the four words from word `at` on. A pattern of four would need an array, and `first_chunk` an `Option`.
 pub fn mapping_from(words: &[u64], at: usize) -> Mapping
     requires { at + 4 ≤ length words.now }
     ensures { result ≡ mapping_from at words.now }
@@ -61,15 +62,22 @@ pub fn first_starting_behind(t: &[u64], from: usize, count: usize, x: u64) -> us
     requires { (from ≤ count) × (4 * count ≤ length t.now) }
     ensures { result ≡ from + first_where (starts_behind x) (drop from (mappings_in count t.now)) }
 {
-    let mut i = from;
-    while i < count {
-        let m = read_mapping(t, i);
-        if x < m.address {
+    for i in from..count {
+        if x < read_mapping(t, i).address {
             return i;
         }
-        i += 1;
     }
-    i
+    count
+}
+
+// Nothing is seen, for so many bytes.
+pub fn nothing(bytes: u64) -> Seen
+    ensures { result ≡ nothing bytes }
+{
+    Seen {
+        shown: Shown::Nothing,
+        bytes,
+    }
 }
 
 // What is seen at `x` by the first mapping that ends behind it, the next one where `x` is not in it.
@@ -78,10 +86,7 @@ fn seen_by(m: Mapping, x: u64) -> Seen
     ensures { result ≡ seen_by m x }
 {
     if x < m.address {
-        return Seen {
-            shown: Shown::Nothing,
-            bytes: m.address - x,
-        };
+        return nothing(m.address - x);
     }
     Seen {
         shown: Shown::Object(m.object, m.offset + (x - m.address)),
@@ -297,18 +302,12 @@ impl<'a> Table<'a> {
         ensures { result ≡ see s [] (mappings_held self.now) x }
     {
         if !in_space(s, x) {
-            return Seen {
-                shown: Shown::Nothing,
-                bytes: 0,
-            };
+            return nothing(0);
         }
         let i = self.first_ending_behind(x);
         let count = self.count;
         if i == count {
-            return Seen {
-                shown: Shown::Nothing,
-                bytes: s.start + s.size - x,
-            };
+            return nothing(s.start + s.size - x);
         }
         seen_by(self.row(i), x)
     }

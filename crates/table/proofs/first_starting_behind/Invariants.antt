@@ -1,12 +1,8 @@
-use Prim.Native.Nat.{◌+◌, ◌-◌, ◌≤◌}
-use lib.ListN.{drop}
+use Rattle.std.proofs.Common.{◌+◌, drop}
 use Rattle.model.specs.Table.{mappings_in}
 use Rattle.table.specs.Places.{first_where, starts_behind}
 use Rattle.table.proofs.First.{FirstFrom}
 use Rattle.table.proofs.first_starting_behind.Given as goal
 
 abbrev pub invariant-loop-i : goal.invariant-loop-i
-invariant-loop-i l = (l.i ≤ l.count) × FirstFrom (starts_behind l.x) l.t l.count (l.from + first_where (starts_behind l.x) (drop l.from (mappings_in l.count l.t))) l.i
-
-abbrev pub decreases-loop-i : goal.decreases-loop-i
-decreases-loop-i l = l.count - l.i
+invariant-loop-i l = FirstFrom (starts_behind l.x) l.t l.count (l.from + first_where (starts_behind l.x) (drop l.from (mappings_in l.count l.t))) l.i

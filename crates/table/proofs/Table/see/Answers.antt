@@ -11,19 +11,21 @@ in_space-requires c = space_end (valid_in c.args.self.now.held c.requires) c.arg
 
 pub returns-then-not-in_space : goal.returns-then-not-in_space
 returns-then-not-in_space c =
-    sees_outside (valid_in c.args.self.now.held c.requires) c.args.x c.in_space.ensures (ap not c.if-not-in_space.true)
+    c.nothing.ensures
+    ∙ sees_outside (valid_in c.args.self.now.held c.requires) c.args.x c.in_space.ensures (ap not c.if-not-in_space.true)
 
-pub overflow_add-result : goal.overflow_add-result
-overflow_add-result c = omega (arith, space_end (valid_in c.args.self.now.held c.requires) c.args.x)
+pub overflow_add-s : goal.overflow_add-s
+overflow_add-s c = omega (arith, space_end (valid_in c.args.self.now.held c.requires) c.args.x)
 
-pub overflow_sub-result : goal.overflow_sub-result
-overflow_sub-result c =
+pub overflow_sub-s : goal.overflow_sub-s
+overflow_sub-s c =
     omega (arith, (is_inside (valid_in c.args.self.now.held c.requires) c.args.x c.in_space.ensures (ap not c.if-not-in_space.false)).1)
 
 pub returns-then-i-count : goal.returns-then-i-count
 returns-then-i-count c =
     let i = is_inside (valid_in c.args.self.now.held c.requires) c.args.x c.in_space.ensures (ap not c.if-not-in_space.false) in
-    sees_end (valid_in c.args.self.now.held c.requires) c.args.x i c.first_ending_behind-i.ensures c.if-i-count.true
+    c.nothing-then-i-count.ensures
+    ∙ sees_end (valid_in c.args.self.now.held c.requires) c.args.x i c.first_ending_behind-i.ensures c.if-i-count.true
 
 pub row-requires : goal.row-requires
 row-requires c =
