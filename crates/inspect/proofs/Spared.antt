@@ -1,6 +1,6 @@
 -- Where no mapping shares a byte with the reservation, the check in a space is the check where nothing is reserved.
 -- Assumes nothing.
-use Rattle.std.proofs.Common.{◌≡◌, ℕ, zero, suc, ◌+◌, ◌*◌, ◌%◌, ◌<◌, ◌≤◌, Bool, true, false, List, [], ◌∷◌, length, get_or, sym, refl, ap, ◌∙◌, arith, ltb-false}
+use Rattle.std.proofs.Common.{◌≡◌, ℕ, zero, suc, ◌+◌, ◌*◌, ◌%◌, ◌<◌, ◌≤◌, Bool, true, false, List, [], ◌∷◌, length, get_or, sym, refl, ap, ◌∙◌, subst, arith, ltb-false}
 use Rattle.model.specs.declared.Mapping.{Mapping}
 use Rattle.model.specs.declared.Space.{Space}
 use Rattle.model.specs.Rows.{all, choose}
@@ -13,9 +13,8 @@ use Rattle.model.proofs.Store.{length-mappings}
 use Rattle.model.proofs.Chain.{Fit, fit_says}
 use Rattle.model.proofs.Table.{top}
 use Rattle.inspect.specs.Part.{up_to}
-use Rattle.table.specs.Halving.{InOrder}
-use Rattle.table.specs.Places.{first_where, ends_behind, free_tests, Valid}
-use Rattle.table.proofs.Free.{free_at}
+use Rattle.table.specs.Halving.{at}
+use Rattle.table.specs.Places.{first_where, ends_behind, Valid}
 
 abbrev reserved_end : Space → ℕ
 reserved_end s = s.reserved.start + s.reserved.size
@@ -24,7 +23,6 @@ pub record Ends (s : Space) : Type 0 where
   pub start : s.start % page ≡ 0
   pub space : top s ≤ limit
   pub reserved : reserved_end s ≤ limit
-  pub none : s.reserved.size ≡ 0 → s.reserved.start ≡ 0
 
 pub space_ends : (s : Space) → all (space_tests s) ≡ true → Ends s
 space_ends s e = go s.reserved.size refl
@@ -33,8 +31,8 @@ space_ends s e = go s.reserved.size refl
     r = (space_says s).0 (all_facts (space_tests s) e)
 
     go : (n : ℕ) → s.reserved.size ≡ n → Ends s
-    go zero z = let h = r.no_reservation z in record { start = r.multiples.0; space = r.end_most; reserved = omega arith; none = λ _. h }
-    go (suc n) z = let h = r.reservation (omega arith) in record { start = r.multiples.0; space = r.end_most; reserved = omega (arith, h, r.end_most); none = λ e. absurd (omega (arith, e, z)) }
+    go zero z = let h = r.no_reservation z in record { start = r.multiples.0; space = r.end_most; reserved = omega arith }
+    go (suc n) z = let h = r.reservation (omega arith) in record { start = r.multiples.0; space = r.end_most; reserved = omega (arith, h, r.end_most) }
 
 -- every mapping has to start inside the space anyhow
 from_start : (s : Space) (ms : List Mapping) → bad_place s 0 ms ≡ bad_place s s.start ms
@@ -110,17 +108,8 @@ free_valid s ws n b h e =
 
 -- ── by what the search tells ──
 
-module _ (s : Space) (ms : List Mapping) (e : Ends s) where
-  -- nothing is reserved
-  pub unreserved : s.reserved.start ≡ reserved_end s → bad_place s 0 ms ≡ bad_place (up_to (top s)) s.start ms
-  unreserved z =
-      from_start s ms
-      ∙ spared s s.start ms (record { address = 0; size = 0; object = 0; offset = 0 }) (omega arith) (λ _. omega (arith, e.none (omega (arith, z))))
-
-  -- no mapping shares a byte with what is
-  pub kept_off : InOrder ms → s.reserved.start < reserved_end s → all (free_tests s.reserved.start (reserved_end s) ms) ≡ true
-      → bad_place s 0 ms ≡ bad_place (up_to (top s)) s.start ms
-  kept_off o h t =
-      from_start s ms
-      ∙ spared s s.start ms (record { address = 0; size = 0; object = 0; offset = 0 }) (omega arith)
-      (free_at o h (all_facts (free_tests s.reserved.start (reserved_end s) ms) t) _)
+-- i is the place of the first that ends behind the reservation's start, and that one starts at its end or behind
+pub kept_off : (s : Space) (ms : List Mapping) (i : ℕ) → i ≡ first_where (ends_behind s.reserved.start) ms → (i < length ms → reserved_end s ≤ (at ms i).address)
+    → bad_place s 0 ms ≡ bad_place (up_to (top s)) s.start ms
+kept_off s ms i e h =
+    from_start s ms ∙ spared s s.start ms _ (omega arith) (subst (λ (k : ℕ). k < length ms → reserved_end s ≤ (at ms k).address) e h)

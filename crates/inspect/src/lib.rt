@@ -15,7 +15,7 @@ ghost use Rattle.inspect.specs.Part.{up_to};
 ghost use Rattle.inspect.specs.Rows.{own_rows};
 
 use model::{Mapping, Refusal, Space};
-use table::Table;
+use table::{Rows, Table};
 
 // Document 02: a table has room for 1 to so many mappings.
 const MOST_MAPPINGS: usize = 4096;
@@ -90,14 +90,16 @@ fn all_fit(t: &[u64], count: usize, from: u64, stop: u64) -> bool
     seen.all_keep_rules() & (end <= stop) & (count <= MOST_MAPPINGS)
 }
 
-// No mapping of the table shares a byte with the reservation if this says so. It then makes no difference to the check.
+// No mapping of the table shares a byte with the reservation if this says so. The reservation then makes no difference to the
+// check.
 fn spares_reservation(s: Space, table: &Table) -> bool
     requires { all (space_tests s) ≡ true }
     ensures { result ≡ true → bad_place s 0 (mappings_held table.now) ≡ bad_place (up_to (s.start + s.size)) s.start (mappings_held table.now) }
 {
     let start = s.reserved.start;
     let end = start + s.reserved.size;
-    start == end || table.is_free(start, end)
+    let first = table.first_ending_behind(start);
+    table.is_free_from(first, end)
 }
 
 // What `first_bad` answers. A quick pass tells a table that is in order; only any other is gone through mapping by mapping.

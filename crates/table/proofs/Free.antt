@@ -7,7 +7,7 @@ use mathlib.Core.List.{List, [], ◌∷◌}
 use Prim.Native.Nat.{ℕ, suc, ◌≤◌, ◌<◌}
 use native.Mathlib.Omega.{arith}
 use lib.Dec.{leb}
-use lib.ListN.{length, get_or, take, drop}
+use lib.ListN.{length, take, drop}
 use lib.Seq.{drop-cons}
 use Rattle.std.proofs.lemmas.List.{drop_all}
 use borrow.Author.Tests.{ltb-true, ltb-false, leb-true, leb-false}
@@ -62,6 +62,3 @@ module _ {ms : List Mapping} (o : InOrder ms) {a b : ℕ} (h : a < b) where
       go : (t : Bool) → leb b m.address ≡ t → drop (first_where (ends_behind a) ms) ms ≡ m ∷ drop (suc i) ms → leb b m.address ≡ all (free_tests a b ms)
       go true q first = q ∙ sym (all_true (free_tests a b ms) (says.1 (rw first (leb-true b m.address q, tt))))
       go false q first = q ∙ sym (all_false (free_tests a b ms) (λ f. let k = rw first at (says.0 f) in omega (arith, k.0, leb-false b m.address q)))
-
-  pub free_at : Alls (free_tests a b ms) → (d : Mapping) → first_where (ends_behind a) ms < length ms → b ≤ (get_or ms (first_where (ends_behind a) ms) d).address
-  free_at t d l = (rw (drop-cons ms (first_where (ends_behind a) ms) d l) at (says.0 t)).0

@@ -168,10 +168,11 @@ pub trait Rows: Copy {
         halve(self, x).lo
     }
 
-    // No row shares a byte with [from, to), where the first one that ends behind `from` is at place `first`: that one, if
-    // there is one, starts at `to` or behind, and so do those behind it.
+    // The row at place `first`, if there is one, starts at `to` or behind. Where it is the first one that ends behind `from`,
+    // no row shares a byte with [from, to): those behind it start later.
     final fn is_free_from(self, first: usize, to: u64) -> bool
-        ensures { (from : ℕ) → from < to → first ≡ first_where (ends_behind from) (rows self) → result ≡ all (free_tests from to (rows self)) }
+        ensures start { result ≡ true → first < length (rows self) → to ≤ (at (rows self) first).address }
+        ensures free { (from : ℕ) → from < to → first ≡ first_where (ends_behind from) (rows self) → result ≡ all (free_tests from to (rows self)) }
     {
         self.number() <= first || to <= self.row(first).address
     }
