@@ -124,7 +124,7 @@ pub fn length_is_right(t: &[u64]) -> bool
     (0 < n) & (n % 4 == 0) & (n <= 4 * MOST_MAPPINGS)
 }
 
-// Rows 4, 5 and 17.
+// Rows 4, 5 and 17, of words and a count as they are lent: a `Table` is one that passed.
 pub fn contents_verdict(s: Space, t: &[u64], count: usize) -> Result<(), Refusal>
     requires { all (space_tests s) ≡ true }
     ensures { reply_of result ≡ verdict (content_rows s (lent t.now count)) }

@@ -152,7 +152,8 @@ impl<'a> RangeList<'a> {
     }
 }
 
-// Puts a range in at place `i`: those from there on move up by one place.
+// Puts a range in at place `i`: those from there on move up by one place. What writes takes words and a count: between two
+// stores the list keeps no rule, as a `RangeList` must.
 fn put_in(list: &mut [u64], count: usize, i: usize, x: Range)
     requires { (i ≤ count) × (2 * count + 2 ≤ length list.old) × ZeroFrom list.old (2 * count) }
     ensures { list.new ≡ list_written (length list.old) (put_in x i (ranges_in count list.old)) }

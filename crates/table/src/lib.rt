@@ -103,7 +103,8 @@ fn in_space(s: Space, x: u64) -> bool
 }
 
 // A search for the first row that ends behind a byte address: its place is one of the `left` from `lo` on, or right behind
-// them, after `looks` looks at one row each. No code reads `looks`: what is claimed of a search counts by it.
+// them, after `looks` looks at one row each. No code reads `looks`, but the claim `Finds` counts by it, and a ghost field
+// holds facts alone.
 #[derive(Clone, Copy)]
 pub struct Search {
     pub lo: usize,
@@ -367,6 +368,7 @@ fn clear_behind(t: &mut [u64], count: usize, after: usize)
 }
 
 // The mappings from place `lo` up to `hi` give way to the new ones, in place; the words behind the last mapping stay zero.
+// What writes takes words and a count: between two stores the table keeps no rule, as a `Table` must.
 pub fn splice(t: &mut [u64], count: usize, lo: usize, hi: usize, new: Replacement)
     requires { Splice t.old count lo hi new }
     ensures { t.new ≡ written (length t.old) (spliced (mappings_in count t.old) lo hi (mappings_of new)) }
