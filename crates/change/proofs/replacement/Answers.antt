@@ -1,5 +1,4 @@
 use Prim.Native.Nat.{◌-◌}
-use mathlib.Core.Path.{ap, ◌∙◌}
 use native.Mathlib.Omega.{arith}
 use Rattle.change.proofs.Hits.{low_high, cuttable, left_part, replaced_none, replaced}
 use Rattle.change.proofs.replacement.Goals as goal
