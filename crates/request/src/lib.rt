@@ -103,7 +103,8 @@ impl Lent<'_> {
 
 // A request whose form is right: rows 1 to 5, 17, 18 and 6 to 10. One without the flag goes on to row 11, and cuts the table
 // from the first mapping that ends behind its address on; of one with it the grant says that these passed, and what is left
-// is the list's. The list is only read. Inlined, and its checks: `change`, which a batch calls too, is a call that they spare.
+// is the list's. The list is only read. Inlined, with its checks: `change`, which a batch calls too, is a call, and one is
+// enough.
 #[inline(always)]
 pub fn bind_request(
     s: Space,
