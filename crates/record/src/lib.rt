@@ -17,6 +17,7 @@ fn bytes_at<const N: usize>(bytes: &[u8], at: usize) -> [u8; N]
     bytes[at..at + N].try_into().unwrap()
 }
 
+// Two sizes, as the library's conversions are: one loop over N bytes made a request check 313 instructions for 296.
 fn u32_at(bytes: &[u8], at: usize) -> u64
     requires { at + 4 ≤ length bytes.now }
     ensures { NumberAt bytes.now at 4 result }
