@@ -1,4 +1,4 @@
--- An answer enum's value is known by its reading: the refusals in the order of their numbers give it back.
+-- A Result is known by its reading: the refusals in the order of their numbers give it back.
 -- Assumes nothing.
 use mathlib.Core.Path.{◌≡◌, refl, sym, ap, ◌∙◌}
 use mathlib.Core.List.{List, [], ◌∷◌}

@@ -152,4 +152,3 @@ pub record Spells (ws : List ℕ) (o : Operation) : Type 0 where
 pub record OperationReading : Type 0 where
   pub exactly : (ws : List ℕ) (o : Operation) → (operation_in ws ≡ Some o) ↔ Spells ws o
   pub own : (r : Request) (ms : List Mapping) → Each (λ o. operation_in (words_of_operation o) ≡ Some o) (operations r ms)
-  -- and no two values of the answer enum read alike
