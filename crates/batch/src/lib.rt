@@ -17,6 +17,7 @@ use batches::BatchRefusal;
 use change::Made;
 use model::{Grant, Refusal, Request, Space};
 use request::Lent;
+use rules::CheckedSpace;
 use table::Table;
 
 const MOST_RECORDS: usize = 64;
@@ -41,7 +42,7 @@ fn lent_verdict(
     if work_words != l.table.len() {
         return Err(Refusal::BadWorkLength);
     }
-    l.contents_verdict(s)
+    l.contents_verdict(CheckedSpace::new(s))
 }
 
 // A request in its turn: rows 13 and 14, of which no flag is served, 6 to 11 and 16, or the table cut and the operations

@@ -4,7 +4,7 @@
 
 ghost use Rattle.std.specs.Prelude.{◌≡◌, ◌+◌, ◌*◌, ◌%◌, ◌≤◌, true, length};
 ghost use Rattle.model.specs.Rows.{all, verdict};
-ghost use Rattle.model.specs.Rules.{page, limit, space_tests};
+ghost use Rattle.model.specs.Rules.{page, limit};
 ghost use Rattle.model.specs.Table.{mappings_in, bad_place, length_row, content_rows};
 ghost use Rattle.model.specs.Calls.{reply_of};
 ghost use Rattle.table.specs.Places.{lent};
@@ -14,7 +14,8 @@ ghost use Rattle.inspect.specs.Joined.{Clean, Floor, Fits};
 ghost use Rattle.inspect.specs.Part.{up_to};
 ghost use Rattle.inspect.specs.Rows.{own_rows};
 
-use model::{Mapping, Refusal, Space};
+use model::{Mapping, Refusal};
+use rules::CheckedSpace;
 use table::{Rows, Table};
 
 // Document 02: a table has room for 1 to so many mappings.
@@ -59,14 +60,14 @@ impl Joined {
 }
 
 // The lowest place of a mapping that breaks its rules or overlaps or precedes its forerunner, if there is one.
-fn first_bad(s: Space, t: &[u64], count: usize) -> Option<usize>
-    requires { (all (space_tests s) ≡ true) × (4 * count ≤ length t.now) }
-    ensures { FirstBad (bad_place s 0 (mappings_in count t.now)) count result }
+fn first_bad(s: CheckedSpace, t: &[u64], count: usize) -> Option<usize>
+    requires { 4 * count ≤ length t.now }
+    ensures { FirstBad (bad_place s.space 0 (mappings_in count t.now)) count result }
 {
     let mut end: u64 = 0;
     for place in 0..count {
         let m = table::read_mapping(t, place);
-        if !rules::mapping_fits(s, end, m) {
+        if !rules::mapping_fits(s.space, end, m) {
             return Some(place);
         }
         end = m.address + m.size;
@@ -92,22 +93,21 @@ fn all_fit(t: &[u64], count: usize, from: u64, stop: u64) -> bool
 
 // No mapping of the table shares a byte with the reservation if this says so. The reservation then makes no difference to the
 // check.
-fn spares_reservation(s: Space, table: &Table) -> bool
-    requires { all (space_tests s) ≡ true }
-    ensures { result ≡ true → bad_place s 0 (mappings_held table.now) ≡ bad_place (up_to (s.start + s.size)) s.start (mappings_held table.now) }
+fn spares_reservation(s: CheckedSpace, table: &Table) -> bool
+    ensures { result ≡ true → bad_place s.space 0 (mappings_held table.now) ≡ bad_place (up_to (s.space.start + s.space.size)) s.space.start (mappings_held table.now) }
 {
-    let start = s.reserved.start;
-    let end = start + s.reserved.size;
+    let start = s.space.reserved.start;
+    let end = start + s.space.reserved.size;
     let first = table.first_ending_behind(start);
     table.is_free_from(first, end)
 }
 
 // What `first_bad` answers. A quick pass tells a table that is in order; only any other is gone through mapping by mapping.
-fn bad_place(s: Space, t: &[u64], count: usize) -> Option<usize>
-    requires { (all (space_tests s) ≡ true) × (4 * count ≤ length t.now) }
-    ensures { FirstBad (bad_place s 0 (mappings_in count t.now)) count result }
+fn bad_place(s: CheckedSpace, t: &[u64], count: usize) -> Option<usize>
+    requires { 4 * count ≤ length t.now }
+    ensures { FirstBad (bad_place s.space 0 (mappings_in count t.now)) count result }
 {
-    if all_fit(t, count, s.start, s.start + s.size) {
+    if all_fit(t, count, s.space.start, s.space.start + s.space.size) {
         let table = Table::new(t, count);
         if spares_reservation(s, &table) {
             return None;
@@ -125,9 +125,8 @@ pub fn length_is_right(t: &[u64]) -> bool
 }
 
 // Rows 4, 5 and 17, of words and a count as they are lent: a `Table` is one that passed.
-pub fn contents_verdict(s: Space, t: &[u64], count: usize) -> Result<(), Refusal>
-    requires { all (space_tests s) ≡ true }
-    ensures { reply_of result ≡ verdict (content_rows s (lent t.now count)) }
+pub fn contents_verdict(s: CheckedSpace, t: &[u64], count: usize) -> Result<(), Refusal>
+    ensures { reply_of result ≡ verdict (content_rows s.space (lent t.now count)) }
 {
     if t.len() / 4 < count {
         return Err(Refusal::BadCount);
@@ -142,9 +141,8 @@ pub fn contents_verdict(s: Space, t: &[u64], count: usize) -> Result<(), Refusal
 }
 
 // The check of a table: rows 2, 4, 5 and 17.
-pub fn table_verdict(s: Space, t: &[u64], count: usize) -> Result<(), Refusal>
-    requires { all (space_tests s) ≡ true }
-    ensures { reply_of result ≡ verdict (own_rows s (lent t.now count)) }
+pub fn table_verdict(s: CheckedSpace, t: &[u64], count: usize) -> Result<(), Refusal>
+    ensures { reply_of result ≡ verdict (own_rows s.space (lent t.now count)) }
 {
     if !length_is_right(t) {
         return Err(Refusal::BadTableLength);

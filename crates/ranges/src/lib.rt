@@ -3,7 +3,7 @@
 
 ghost use Rattle.std.specs.Prelude.{◌≡◌, true, map, ◌+◌, ◌*◌, ◌≤◌, ◌<◌, length, slice_get};
 ghost use Rattle.model.specs.Rows.{all};
-ghost use Rattle.model.specs.Rules.{limit, space_tests};
+ghost use Rattle.model.specs.Rules.{limit};
 ghost use Rattle.model.specs.Ranges.{ranges_in, list_written, range_end, list_tests, length_tests, list_row};
 ghost use Rattle.words.specs.Words.{ZeroFrom};
 ghost use Rattle.table.specs.Places.{widest};
@@ -13,6 +13,7 @@ ghost use Rattle.ranges.specs.Changes.{outcome_of, put_in, taken_out, added, rem
 ghost use Rattle.ranges.specs.Beside.{beside_off, beside};
 
 use model::{Mapping, Range, Refusal, Seen, Shown, Space};
+use rules::CheckedSpace;
 use table::Rows;
 
 // Document 02: a list is of even length up to so many words.
@@ -54,14 +55,15 @@ fn all_fit(s: Space, list: &[u64], count: usize) -> bool
 }
 
 // Row 18: the list keeps its rules.
-pub fn keeps_rules(s: Space, list: &[u64], count: usize) -> bool
-    requires { all (space_tests s) ≡ true }
-    ensures { result ≡ all (list_row s (lent_list list.now count)).tests }
+pub fn keeps_rules(s: CheckedSpace, list: &[u64], count: usize) -> bool
+    ensures { result ≡ all (list_row s.space (lent_list list.now count)).tests }
 {
     if list.is_empty() {
         return count == 0;
     }
-    length_is_right(list, count) && all_fit(s, list, count) && words::are_zero_from(list, 2 * count)
+    length_is_right(list, count)
+        && all_fit(s.space, list, count)
+        && words::are_zero_from(list, 2 * count)
 }
 
 // A range as the search by halves takes it: as a mapping, whose object plays no part.

@@ -2,9 +2,8 @@
 // batches, share. Internal: a batch's requests come to a table that is known to pass.
 #![tactic(auto)]
 
-ghost use Rattle.std.specs.Prelude.{◌≡◌, true, [], ◌∷◌};
-ghost use Rattle.model.specs.Rows.{all, verdict};
-ghost use Rattle.model.specs.Rules.{space_tests};
+ghost use Rattle.std.specs.Prelude.{◌≡◌, [], ◌∷◌};
+ghost use Rattle.model.specs.Rows.{verdict};
 ghost use Rattle.model.specs.Table.{operations_row};
 ghost use Rattle.model.specs.Ranges.{list_row};
 ghost use Rattle.model.specs.Calls.{lent_rows, reply_of};
@@ -15,13 +14,13 @@ ghost use Rattle.request.specs.Bound.{lent_words, lent_of, length_rows, contents
 
 use change::Made;
 use model::{Grant, Refusal, Request, Space};
+use rules::CheckedSpace;
 use table::{Rows, Table};
 
 // Row 18.
 #[tactic(auto, unfolding(model::specs::Rows::decide))]
-fn list_verdict(s: Space, ranges: &[u64], range_count: usize) -> Result<(), Refusal>
-    requires { all (space_tests s) ≡ true }
-    ensures { reply_of result ≡ verdict (list_row s (lent_list ranges.now range_count) ∷ []) }
+fn list_verdict(s: CheckedSpace, ranges: &[u64], range_count: usize) -> Result<(), Refusal>
+    ensures { reply_of result ≡ verdict (list_row s.space (lent_list ranges.now range_count) ∷ []) }
 {
     if !ranges::keeps_rules(s, ranges, range_count) {
         return Err(Refusal::BadRanges);
@@ -57,9 +56,8 @@ impl Lent<'_> {
     }
 
     // Rows 4, 5, 17 and 18.
-    pub fn contents_verdict(&self, s: Space) -> Result<(), Refusal>
-        requires { all (space_tests s) ≡ true }
-        ensures { reply_of result ≡ verdict (contents_rows s (lent_of self.now)) }
+    pub fn contents_verdict(&self, s: CheckedSpace) -> Result<(), Refusal>
+        ensures { reply_of result ≡ verdict (contents_rows s.space (lent_of self.now)) }
     {
         inspect::contents_verdict(s, self.table, self.count)?;
         self.list_verdict(s)
@@ -69,9 +67,8 @@ impl Lent<'_> {
     // for a call that is not made.
     #[inline(always)]
     #[tactic(auto, using(crate::proofs::Checked::none_listed))]
-    fn list_verdict(&self, s: Space) -> Result<(), Refusal>
-        requires { all (space_tests s) ≡ true }
-        ensures { reply_of result ≡ verdict (list_row s (lent_of self.now).ranges ∷ []) }
+    fn list_verdict(&self, s: CheckedSpace) -> Result<(), Refusal>
+        ensures { reply_of result ≡ verdict (list_row s.space (lent_of self.now).ranges ∷ []) }
     {
         if self.ranges.is_empty() && self.range_count == 0 {
             return Ok(());
@@ -85,7 +82,7 @@ impl Lent<'_> {
         ensures { reply_of result ≡ verdict (lent_rows s (operations_row operation_words (lent_of self.now).table ∷ []) (lent_of self.now)) }
     {
         self.lengths_verdict(s, operation_words)?;
-        self.contents_verdict(s)
+        self.contents_verdict(CheckedSpace::new(s))
     }
 
     // Rows 1, 2, 4, 5, 17 and 18, of a look-up.
@@ -96,8 +93,9 @@ impl Lent<'_> {
         if !rules::space_keeps_rules(s) {
             return Err(Refusal::BadSpace);
         }
-        inspect::table_verdict(s, self.table, self.count)?;
-        self.list_verdict(s)
+        let checked = CheckedSpace::new(s);
+        inspect::table_verdict(checked, self.table, self.count)?;
+        self.list_verdict(checked)
     }
 }
 

@@ -2,7 +2,7 @@
 // tests, in their order, most with & between them: no branch. Sums are compared exactly, and none is made that could wrap.
 #![tactic(auto)]
 
-ghost use Rattle.std.specs.Prelude.{◌≡◌, ◌+◌, leb};
+ghost use Rattle.std.specs.Prelude.{◌≡◌, true, ◌+◌, leb};
 ghost use Rattle.model.specs.Rows.{all, verdict};
 ghost use Rattle.model.specs.Rules.{aligned, apart, space_tests, form_rows, request_rows, alignment_row, inside_row, object_row, offset_row};
 ghost use Rattle.model.specs.Table.{fit_tests};
@@ -65,6 +65,22 @@ pub fn space_keeps_rules(s: Space) -> bool
     whole
         & (s.start <= s.reserved.start)
         & sum_at_most(s.reserved.start, s.reserved.size, s.start, s.size)
+}
+
+// A space that passed its check: it keeps its rules.
+#[derive(Clone, Copy)]
+pub struct CheckedSpace {
+    pub space: Space,
+    ghost kept: { all (space_tests space) ≡ true },
+}
+
+impl CheckedSpace {
+    pub fn new(space: Space) -> CheckedSpace
+        requires { all (space_tests space) ≡ true }
+        ensures { result.space ≡ space }
+    {
+        CheckedSpace { space }
+    }
 }
 
 // The mapping keeps its rules, and starts at `from` or behind.

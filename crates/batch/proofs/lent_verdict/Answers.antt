@@ -20,8 +20,8 @@ returns-then-work_words-l c =
     lent_by a.s l a.operation_words (work_row a.work_words l.table ∷ []) c.in_ok-lengths_verdict.ensures
     (work_refused a.work_words l.table (contents_rows a.s l) c.if-work_words-l.true)
 
-pub contents_verdict-requires : goal.contents_verdict-requires
-contents_verdict-requires c =
+pub new-requires : goal.new-requires
+new-requires c =
     let a = c.args in
     lengths_held a.s (lent_of a.l.now) a.operation_words c.in_ok-lengths_verdict.ensures
 
@@ -30,4 +30,4 @@ returns c =
     let a = c.args in
     let l = lent_of a.l.now in
     lent_by a.s l a.operation_words (work_row a.work_words l.table ∷ []) c.in_ok-lengths_verdict.ensures
-    (work_passed a.work_words l.table (contents_rows a.s l) c.if-work_words-l.false c.contents_verdict.ensures)
+    (work_passed a.work_words l.table (contents_rows a.s l) c.if-work_words-l.false (rw c.new.ensures at c.contents_verdict.ensures))

@@ -15,7 +15,7 @@ returns-then-not-mapping_fits c =
 pub overflow_add-end : goal.overflow_add-end
 overflow_add-end c =
     let s = c.args.s in
-    omega (arith, fits_end s c.loop-place.end c.read_mapping-m.result (space_ends s c.requires.0).space (held c.mapping_fits.ensures (ap not c.if-not-mapping_fits.false)))
+    omega (arith, fits_end s.space c.loop-place.end c.read_mapping-m.result (space_ends s.space s.kept).space (held c.mapping_fits.ensures (ap not c.if-not-mapping_fits.false)))
 
 pub loop-place-preserved : goal.loop-place-preserved
 loop-place-preserved c =

@@ -5,8 +5,8 @@ use Rattle.inspect.proofs.spares_reservation.Goals as goal
 
 pub overflow_add-end : goal.overflow_add-end
 overflow_add-end c =
-    omega (arith, (space_ends c.args.s c.requires).reserved)
+    omega (arith, (space_ends c.args.s.space c.args.s.kept).reserved)
 
 pub returns : goal.returns
 returns c =
-    λ t. kept_off c.args.s (mappings_held c.args.table.now) _ c.first_ending_behind-first.ensures (c.is_free_from.ensures.start t)
+    λ t. kept_off c.args.s.space (mappings_held c.args.table.now) _ c.first_ending_behind-first.ensures (c.is_free_from.ensures.start t)

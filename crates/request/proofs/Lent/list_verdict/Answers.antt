@@ -13,5 +13,5 @@ use Rattle.request.proofs.Lent.list_verdict.Goals as goal
 pub returns : goal.returns
 returns c =
     let l = c.args.self.now in
-    subst (λ (ws : List ℕ). reply_of c.list_verdict.result ≡ verdict (list_row c.args.s (lent_list ws l.range_count) ∷ []))
+    subst (λ (ws : List ℕ). reply_of c.list_verdict.result ≡ verdict (list_row c.args.s.space (lent_list ws l.range_count) ∷ []))
     (take_all (length l.ranges.now - 0) l.ranges.now (omega arith)) c.list_verdict.ensures

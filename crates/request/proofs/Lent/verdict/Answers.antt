@@ -10,8 +10,8 @@ returns-in_err-lengths_verdict c =
     rw (refused_on _ _ c.from_residual.ensures.1)
     (lent_by c.args.s (lent_of c.args.self.now) c.args.operation_words [] c.in_err-lengths_verdict.ensures refl)
 
-pub contents_verdict-requires : goal.contents_verdict-requires
-contents_verdict-requires c = lengths_held c.args.s (lent_of c.args.self.now) c.args.operation_words c.in_ok-lengths_verdict.ensures
+pub new-requires : goal.new-requires
+new-requires c = lengths_held c.args.s (lent_of c.args.self.now) c.args.operation_words c.in_ok-lengths_verdict.ensures
 
 pub returns : goal.returns
-returns c = lent_by c.args.s (lent_of c.args.self.now) c.args.operation_words [] c.in_ok-lengths_verdict.ensures c.contents_verdict.ensures
+returns c = lent_by c.args.s (lent_of c.args.self.now) c.args.operation_words [] c.in_ok-lengths_verdict.ensures (rw c.new.ensures at c.contents_verdict.ensures)
