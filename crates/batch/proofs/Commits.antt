@@ -1,32 +1,21 @@
 -- All or none: what is kept, put back and cleared.
 -- Assumes nothing.
 use mathlib.Core.Path.{◌≡◌, sym, ap, ap₂, ◌∙◌}
-use mathlib.Core.List.{List, ◌++◌, append-nil}
+use mathlib.Core.List.{List, ◌++◌}
 use Prim.Native.Nat.{ℕ, ◌+◌, ◌-◌, ◌*◌, ◌≤◌}
 use native.Mathlib.Omega.{arith}
-use lib.ListN.{length, take, drop, replicate, length-replicate, take-append-drop}
-use lib.Seq.{drop-length, length-take-le}
+use lib.ListN.{length, take, replicate, take-append-drop}
+use lib.Seq.{length-take-le}
 use Rattle.model.specs.declared.Request.{Request}
 use Rattle.model.specs.declared.Space.{Space}
 use Rattle.model.specs.Rows.{Reply, refused, answered}
 use Rattle.table.specs.Places.{lent}
 use Rattle.words.specs.Words.{stored, ZeroFrom}
-use Rattle.words.proofs.Stored.{stored_is, length-stored, take-stored-end, cleared_is, cleared-stored}
+use Rattle.words.proofs.Stored.{length-stored, take-stored-end, cleared_is, cleared-stored}
 use Rattle.change.specs.declared.Made.{Made}
 use Rattle.change.specs.Change.{Changed}
 use Rattle.request.specs.Bound.{Checked}
 use Rattle.batch.specs.Turns.{turned, committing, committed}
-
--- a run stored over a slice of its own length is all of it
-copied : (us vs ws : List ℕ) → us ≡ stored vs 0 ws → length vs ≡ length ws → us ≡ ws
-copied us vs ws e l =
-    let z : 0 + length ws ≡ length vs = omega (arith, l) in
-    e ∙ stored_is vs 0 ws ∙ ap (λ (n : ℕ). ws ++ drop n vs) z ∙ ap (λ (xs : List ℕ). ws ++ xs) (drop-length vs) ∙ append-nil ws
-
-zeroed : (us vs : List ℕ) (n : ℕ) → us ≡ stored vs 0 (replicate (length vs - 0) 0) → length vs ≡ n → us ≡ replicate n 0
-zeroed us vs n e l =
-    let z : length vs - 0 ≡ n = omega (arith, l) in
-    copied us vs (replicate (length vs - 0) 0) e (omega (arith, length-replicate {A = ℕ} (length vs - 0) 0)) ∙ ap (λ (k : ℕ). replicate k 0) z
 
 -- the first n words of ws stored at the front
 front : (us vs ws : List ℕ) (n : ℕ) → us ≡ stored vs 0 (take n ws) → n ≤ length ws → take n us ≡ take n ws
@@ -52,8 +41,8 @@ module _ (k : ℕ) (s : Space) (rs : List Request) (ws vs os : List ℕ) (count 
   kept : length vs' ≡ length vs
   kept = ap length copy ∙ length-stored vs 0 (take (4 * count) ws) (omega (arith, length-take-le (4 * count) ws held, held, long))
 
-  work_zeros : {us : List ℕ} → us ≡ stored vs' 0 (replicate (length vs' - 0) 0) → us ≡ replicate (length vs) 0
-  work_zeros e = zeroed _ vs' (length vs) e kept
+  work_zeros : {us : List ℕ} → us ≡ replicate (length vs') 0 → us ≡ replicate (length vs) 0
+  work_zeros e = e ∙ ap (λ (k : ℕ). replicate k 0) kept
 
   by : {y : Reply Made} → x ≡ y → committed k (turned s 0 rs (lent ws count) os) ws vs os
       ≡ committing k y (record { reply = y; table = ws'; operations = os' }) ws vs os
@@ -62,14 +51,14 @@ module _ (k : ℕ) (s : Space) (rs : List Request) (ws vs os : List ℕ) (count 
 
   pub none : {n p : ℕ} {back put cleared emptied : List ℕ} → x ≡ refused n p → length ws' ≡ length ws
       → back ≡ stored ws' 0 (take (4 * count) vs') → put ≡ stored back (4 * count) (replicate (length back - 4 * count) 0)
-      → cleared ≡ stored vs' 0 (replicate (length vs' - 0) 0) → emptied ≡ stored os' 0 (replicate (length os' - 0) 0) → length os' ≡ length os
+      → cleared ≡ replicate (length vs') 0 → emptied ≡ replicate (length os') 0 → length os' ≡ length os
       → committed k (turned s 0 rs (lent ws count) os) ws vs os ≡ record { answer = refused n p; table = put; work = cleared; operations = emptied }
   none {n} {p} {back} {put} {cleared} {emptied} e l b q c f m =
       by e ∙ λ i. record {
         answer = refused n p;
         table = sym (put_back put back ws (4 * count) held checked.behind same again q) i;
         work = sym (work_zeros c) i;
-        operations = sym (zeroed emptied os' (length os) f m) i;
+        operations = sym (f ∙ ap (λ (k : ℕ). replicate k 0) m) i;
       }
     where
       there : 4 * count ≤ length vs'
@@ -81,7 +70,7 @@ module _ (k : ℕ) (s : Space) (rs : List Request) (ws vs os : List ℕ) (count 
       again : take (4 * count) back ≡ take (4 * count) ws
       again = front back ws' vs' (4 * count) b there ∙ front vs' vs ws (4 * count) copy held
 
-  pub every : {made after : ℕ} {cleared : List ℕ} → x ≡ answered (record { operations = made; count = after }) → cleared ≡ stored vs' 0 (replicate (length vs' - 0) 0)
+  pub every : {made after : ℕ} {cleared : List ℕ} → x ≡ answered (record { operations = made; count = after }) → cleared ≡ replicate (length vs') 0
       → committed k (turned s 0 rs (lent ws count) os) ws vs os
       ≡ record { answer = answered (record { operations = made; count = after; ranges = k }); table = ws'; work = cleared; operations = os' }
   every {made} {after} {cleared} e c =

@@ -92,7 +92,7 @@ fn turns(
                     count: next.count,
                 };
             }
-            Err(refusal) => return Err(BatchRefusal::at(refusal, i)),
+            Err(refusal) => return Err(BatchRefusal { refusal, place: i }),
         }
     }
     Ok(made)
@@ -117,12 +117,12 @@ fn all_or_none(
         Err(refusal) => {
             words::store(table, 0, &work[..4 * count]);
             words::clear(table, 4 * count, table.len());
-            words::clear(work, 0, work.len());
-            words::clear(operations, 0, operations.len());
+            work.fill(0);
+            operations.fill(0);
             Err(refusal)
         }
         Ok(made) => {
-            words::clear(work, 0, work.len());
+            work.fill(0);
             Ok(Grant {
                 operations: made.operations,
                 count: made.count,

@@ -1,5 +1,5 @@
-// What must be believed of a batch of requests (document 02, Item 2), and nothing else: the declared type here, the
-// definitions and the claims in specs/. Proofs of the claims are in proofs/.
+// What must be believed of a batch of requests (document 02, Item 2): the declared type here, the definitions and the claims
+// in specs/. Proofs of the claims are in proofs/. The one call makes a batch's own refusal.
 #![tactic(auto)]
 
 ghost use Rattle.std.specs.Prelude.{◌≡◌};
@@ -17,25 +17,14 @@ pub struct BatchRefusal {
     pub ghost own: { place_in refusal place ≡ place },
 }
 
-impl BatchRefusal {
-    // A refusal that the request at a place gets in its turn.
-    pub fn at(refusal: Refusal, place: usize) -> BatchRefusal
-        requires { place_in refusal place ≡ place }
-        ensures { (result.refusal ≡ refusal) × (result.place ≡ place) }
-    {
-        BatchRefusal { refusal, place }
-    }
-}
-
 // The batch's own refusals, as `?` passes them on.
 impl From<Refusal> for BatchRefusal {
     ghost from_gives = { λ w b. (b.refusal ≡ w) × (b.place ≡ (numbered w).1) };
 
     fn from(refusal: Refusal) -> BatchRefusal {
-        let place = match refusal {
-            Refusal::BadMapping(place) => place,
-            _ => 0,
-        };
-        BatchRefusal { refusal, place }
+        BatchRefusal {
+            refusal,
+            place: rules::refusal_place(refusal),
+        }
     }
 }
