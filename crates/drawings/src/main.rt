@@ -128,12 +128,7 @@ fn differs(rt: &impl Print, line: &str) -> bool {
 
 // Runs every line of a table, and says how many rows there are and how many differ.
 fn run(rt: &impl Print, table: &str) {
-    let mut differ: usize = 0;
-    for line in table.lines() {
-        if differs(rt, line) {
-            differ += 1;
-        }
-    }
+    let differ = table.lines().filter(|line| differs(rt, line)).count();
     let _ = println!(rt; "{} rows, {differ} differ", table.lines().count());
 }
 

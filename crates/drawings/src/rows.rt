@@ -9,18 +9,18 @@ ghost use Rattle.drawings.specs.Rows.{mapping_words, operation_words, items, IsE
 use model::{Grant, Mapping, Operation, Refusal, Rests};
 use std::str::SplitWhitespace;
 
-pub const PAGE: u64 = 4096;
+pub(crate) const PAGE: u64 = 4096;
 
 // The mappings that a table has room for, where its row says nothing else.
-pub const ROOM: usize = 8;
+pub(crate) const ROOM: usize = 8;
 
 // The operations that a call on such a table has room for.
-pub const OPERATIONS: usize = ROOM + 1;
+pub(crate) const OPERATIONS: usize = ROOM + 1;
 
-// What a row asks, and what it expects: the operations or a refusal's number, and the mappings
-// afterwards.
+// What a row asks, and what it expects: the operations or a refusal, and the mappings afterwards. The
+// refusal is a number, since the row's text has the number of document 01's table.
 #[derive(Clone, Copy)]
-pub struct Row<'a> {
+pub(crate) struct Row<'a> {
     pub label: &'a str,
     pub room: usize,
     pub old: [Option<Mapping>; ROOM],
@@ -32,7 +32,7 @@ pub struct Row<'a> {
 
 impl<'a> Row<'a> {
     // The row that a line of the table is.
-    pub fn parse(line: &'a str) -> Option<Row<'a>> {
+    pub(crate) fn parse(line: &'a str) -> Option<Row<'a>> {
         let mut columns = line.strip_prefix("| ")?.strip_suffix(" |")?.split(" | ");
         let (label, room) = label_and_room(columns.next()?)?;
         let old = list(columns.next()?, mapping)?;
@@ -51,7 +51,7 @@ impl<'a> Row<'a> {
 
     // Whether this is the answer that the row expects: no refusal of a row has a place, and there is
     // no list of sparse ranges.
-    pub fn expects(&self, answer: Result<Grant, Refusal>) -> bool
+    pub(crate) fn expects(&self, answer: Result<Grant, Refusal>) -> bool
         ensures { IsTrue result ↔ IsExpected self.now.result self.now.new answer }
     {
         match (answer, self.result) {
@@ -69,7 +69,7 @@ impl<'a> Row<'a> {
 }
 
 // How many items a list has.
-pub fn count<T>(list: &[Option<T>]) -> usize
+pub(crate) fn count<T>(list: &[Option<T>]) -> usize
     ensures { result ≡ items list.now }
 {
     list.iter().filter(|place| place.is_some()).count()
@@ -174,7 +174,7 @@ fn from_pages(first: u32, end: u32, object: u32, offset: u32) -> Mapping
 }
 
 // The words of a place in a table: a mapping's, or zeros.
-pub fn mapping_words(place: Option<Mapping>) -> [u64; 4]
+pub(crate) fn mapping_words(place: Option<Mapping>) -> [u64; 4]
     ensures { result ≡ mapping_words place }
 {
     let m = place.unwrap_or_default();
@@ -182,14 +182,15 @@ pub fn mapping_words(place: Option<Mapping>) -> [u64; 4]
 }
 
 // The words of a place in an operation slice: an operation's, or nines.
-pub fn operation_words(place: Option<Operation>) -> [u64; 14]
+pub(crate) fn operation_words(place: Option<Operation>) -> [u64; 14]
     ensures { result ≡ operation_words place }
 {
     place.map_or([9; 14], words_of_operation)
 }
 
 // The words of an operation: its kind, its keep mark, the mapping that it names, and the lower and
-// the upper rest, of which an absent one is four zeros.
+// the upper rest, of which an absent one is four zeros. `cut` writes them too: what a row expects
+// doesn't come from the code that it is compared with.
 fn words_of_operation(operation: Operation) -> [u64; 14]
     ensures { result ≡ words_of_operation operation }
 {

@@ -7,7 +7,7 @@ use std::fmt;
 
 // What it wraps, in that notation.
 #[derive(Clone, Copy)]
-pub struct Drawn<T>(pub T);
+pub(crate) struct Drawn<T>(pub T);
 
 impl fmt::Display for Drawn<Mapping> {
     fn fmt<W: fmt::Write>(&self, f: &mut fmt::Formatter<W>) -> fmt::Result {
@@ -85,7 +85,7 @@ where
 }
 
 // The first items of a run, or all where it has fewer.
-pub fn first<T>(items: &[T], count: usize) -> &[T]
+pub(crate) fn first<T>(items: &[T], count: usize) -> &[T]
     ensures { result.now ≡ take count items.now }
 {
     items.get(..count).unwrap_or(items)
