@@ -61,20 +61,6 @@ pub record Going (s : Space) (cs : List (List ℕ)) (t : Table) (before : List �
   pub whole : turned s 0 (map request_of cs) t before
       ≡ behind (take (14 * g.operations) os) g.operations (turned s i (drop i (map request_of cs)) (lent ws g.count) (drop (14 * g.operations) os))
 
-pub going_start : (s : Space) (cs : List (List ℕ)) (t : Table) (os : List ℕ) → Checked s t
-    → Going s cs t os t.words os (record { operations = 0; count = t.count }) 0
-going_start s cs t os c = record { checked = c; fits = omega arith; whole = nothing (turned s 0 (map request_of cs) t os) }
-  where
-    nothing : (o : Changed) → o ≡ behind [] 0 o
-    nothing o = λ i. record { reply = replies o.reply i; table = o.table; operations = o.operations }
-      where
-        replies : (a : Reply Made) → a ≡ more 0 a
-        replies (refused n p) = refl
-        replies (answered h) = λ i. answered (record { operations = same i; count = h.count })
-          where
-            same : h.operations ≡ 0 + h.operations
-            same = omega arith
-
 module _ {s : Space} {cs : List (List ℕ)} {t : Table} {before ws os : List ℕ} {done : Made} {i : ℕ} (go : Going s cs t before ws os done i) where
   abbrev k : ℕ
   k = done.operations

@@ -14,7 +14,8 @@ use Rattle.program.specs.Script.{record_at}
 use Rattle.program.specs.declared.ScriptRecord.TheVariants.{Cut, End}
 use Rattle.script.specs.Progress.{Idle}
 use Rattle.script.specs.Streaming.{Stream, came, ended, printed}
-use Rattle.words.proofs.Stored.{drop-take, length-stored, take-stored-end}
+use Rattle.std.proofs.lemmas.List.{drop-take}
+use Rattle.words.proofs.Stored.{length-stored, take-stored-end}
 use Rattle.words.proofs.Moved.{length_part}
 use Rattle.script.proofs.Reading.{short_length}
 use Rattle.vmbind.specs.declared.Failure.{Failure}
@@ -51,7 +52,7 @@ module _ (run : Run) (h : Held run) {q : Run} (p : Printed (begun run) q) where
   rest =
       let e : run.to - run.from ≡ p.taken + (q.to - q.from) = omega (arith, taken_within, p.from, p.same.1) in
       ap (λ (n : ℕ). drop p.taken (take n (drop run.from run.input))) e
-      ∙ drop-take p.taken (q.to - q.from) (drop run.from run.input) (simp length-drop (omega (arith, taken_within, h.inside, p.from, p.same.1)))
+      ∙ drop-take p.taken (q.to - q.from) (drop run.from run.input)
       ∙ ap (take (q.to - q.from)) (drop-drop p.taken run.from run.input ∙ ap (λ (n : ℕ). drop n run.input) (sym p.from) ∙ ap (drop q.from) (sym p.same.0))
 
   -- the text is what stands at the front of the output

@@ -15,9 +15,6 @@ drop_later xs ys i n h e =
     let d : i + (n - i) ≡ n = omega arith in
     rw d at (sym (drop-drop (n - i) i xs) ∙ ap (drop (n - i)) e ∙ drop-drop (n - i) i ys)
 
-pub drop-take : (i n : ℕ) (xs : List ℕ) → i ≤ length xs → drop i (take (i + n) xs) ≡ take n (drop i xs)
-drop-take i n xs h = ap (drop i) (take-add i n xs) ∙ drop_at (take i xs) _ i (length-take-le i xs h)
-
 module _ (ws : List ℕ) (at : ℕ) (run : List ℕ) where
   pub stored_is : stored ws at run ≡ take at ws ++ (run ++ drop (at + length run) ws)
   unfolding stored

@@ -12,7 +12,8 @@ use lib.ListN.{length, get_or, take, drop, replicate, take-append-drop, length-d
 use lib.Seq.{length-take-le, take-add, take-take, take-length, drop-drop, drop-cons}
 use Rattle.words.specs.Words.{stored, cleared, Zeros, ZeroFrom, Tells, Blank, Joins}
 use borrow.Author.Rules.{rules}
-use Rattle.words.proofs.Stored.{drop-take, drop-stored, length-stored, cleared_twice}
+use Rattle.std.proofs.lemmas.List.{drop-take}
+use Rattle.words.proofs.Stored.{drop-stored, length-stored, cleared_twice}
 
 or-zero : (a b : ℕ) → bit_or a b ≡ 0 → (a ≡ 0) × (b ≡ 0)
 or-zero a b e = (omega (arith, e, or_add_and a b, and_le_r a b), omega (arith, e, or_add_and a b, and_le_l a b))
@@ -34,7 +35,7 @@ module _ (ws : List ℕ) (from : ℕ) where
   zeros_second n m h z =
       let l : n ≤ length (drop from ws) = simp length-drop (omega arith) in
       let e : n + m - n ≡ m = omega arith in
-      rw (← drop-drop n from ws) (sym (drop-take n m (drop from ws) l) ∙ ap (drop n) z ∙ rw e at (drop-replicate {X = ℕ} n (n + m) 0))
+      rw (← drop-drop n from ws) (sym (drop-take n m (drop from ws)) ∙ ap (drop n) z ∙ rw e at (drop-replicate {X = ℕ} n (n + m) 0))
 
   both_tell : {a b : ℕ} (n m : ℕ) → from + n ≤ length ws → Tells ws from n a → Tells ws (from + n) m b
       → Tells ws from (n + m) (bit_or a b)

@@ -4,23 +4,10 @@ use native.Mathlib.Omega.{arith}
 use Rattle.model.specs.declared.Mapping.{Mapping}
 use Rattle.table.specs.Halving.{at, halved}
 use Rattle.table.proofs.Halving.{step_some, step_none}
-use Rattle.table.proofs.Looks.{looks_halvable}
 use Rattle.table.proofs.step.Goals as goal
 
 pub returns-then-s-eq0 : goal.returns-then-s-eq0
 returns-then-s-eq0 g c = let a = c.args in sym (step_none (g.R.Rows.rows a.all) a.x a.s (omega (arith, c.if-s-eq0.true)))
-
-pub middle-requires : goal.middle-requires
-middle-requires g c = c.requires.places
-
-pub row-requires : goal.row-requires
-row-requires g c = omega (arith, c.middle.ensures, c.requires.most, c.if-s-eq0.false)
-
-pub halved-requires : goal.halved-requires
-halved-requires g c =
-    let a = c.args in
-    let rows = g.R.Rows.rows a.all in
-    looks_halvable (g.met.R.Rows.in_order a.all) a.x c.requires (omega (arith, c.if-s-eq0.false)) (sym (c.row.ensures ∙ ap (at rows) c.middle.ensures))
 
 pub returns : goal.returns
 returns g c =

@@ -5,9 +5,6 @@ use Rattle.table.proofs.Kept.{kept_valid}
 use Rattle.table.proofs.Near.{end_there, passed}
 use Rattle.table.proofs.Table.passes.Goals as goal
 
-pub returns-then-i-eq0 : goal.returns-then-i-eq0
-returns-then-i-eq0 c = λ _. omega (arith, c.if-i-eq0.true)
-
 pub row-m-requires : goal.row-m-requires
 row-m-requires c = let t = c.args.self.now in omega (arith, length-mappings t.count t.words.now, c.requires, c.if-i-eq0.false)
 

@@ -3,23 +3,13 @@ use Rattle.model.proofs.Store.{length-mappings}
 use Rattle.table.proofs.Places.{at_place, valid_at}
 use Rattle.table.proofs.Kept.{valid_in}
 use Rattle.table.proofs.Looks.{first_place, found_ends}
-use Rattle.table.proofs.Sees.{space_end, sees_outside, is_inside, sees_end, sees_mapping}
+use Rattle.table.proofs.Sees.{sees_outside, is_inside, sees_end, sees_mapping}
 use Rattle.table.proofs.Table.see.Goals as goal
-
-pub in_space-requires : goal.in_space-requires
-in_space-requires c = space_end (valid_in c.args.self.now.held c.requires) c.args.x
 
 pub returns-then-not-in_space : goal.returns-then-not-in_space
 returns-then-not-in_space c =
     c.nothing.ensures
     ∙ sees_outside (valid_in c.args.self.now.held c.requires) c.args.x c.in_space.ensures (ap not c.if-not-in_space.true)
-
-pub overflow_add-s : goal.overflow_add-s
-overflow_add-s c = omega (arith, space_end (valid_in c.args.self.now.held c.requires) c.args.x)
-
-pub overflow_sub-s : goal.overflow_sub-s
-overflow_sub-s c =
-    omega (arith, (is_inside (valid_in c.args.self.now.held c.requires) c.args.x c.in_space.ensures (ap not c.if-not-in_space.false)).1)
 
 pub returns-then-i-count : goal.returns-then-i-count
 returns-then-i-count c =
