@@ -1,5 +1,6 @@
 -- The entries of a mapping size by size, and their number.
 -- Assumes nothing.
+use Rattle.std.specs.Cmp.{second_so}
 use mathlib.Core.Path.{◌≡◌, refl, sym, ap, subst, ◌∙◌}
 use mathlib.Core.Logic.{◌⊎◌, inl, inr}
 use mathlib.Core.Bool.{Bool, true, false, ◌&&◌}
@@ -40,17 +41,12 @@ cover_least s m e = rw (none_below s e)
 abbrev MayHave : PageSize → Mapping → Bool → Type 0
 MayHave s m t = (leb (bytes_of s) m.size && congruent (bytes_of s) m) ≡ t
 
-both : (a b : Bool) → (a && b) ≡ true → b ≡ true
-both true b e = e
-both false true e = refl
-both false false e = e
-
 neither : (a b : Bool) → (a && b) ≡ false → (a ≡ false) ⊎ (b ≡ false)
 neither true b e = inr e
 neither false b e = inl refl
 
 pub agrees : (s : PageSize) (m : Mapping) → MayHave s m true → congruent (bytes_of s) m ≡ true
-agrees s m e = both (leb (bytes_of s) m.size) (congruent (bytes_of s) m) e
+agrees s m e = second_so (leb (bytes_of s) m.size) (congruent (bytes_of s) m) e
 
 module _ (s t : PageSize) (m : Mapping) (next : size_below s ≡ Some t) where
   pub parts-cover : {p q r : Mapping} → p ≡ lower (bytes_of s) m → q ≡ middle (bytes_of s) m → r ≡ upper (bytes_of s) m

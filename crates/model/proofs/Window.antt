@@ -1,5 +1,6 @@
 -- The algebra of cutting a table at an address.
 -- Assumes nothing.
+use Rattle.std.proofs.Math.Nat.{le-max_right}
 use mathlib.Core.Path.{◌≡◌, refl, sym, ap, ap₂, ◌∙◌}
 use mathlib.Core.List.{List, [], ◌∷◌, ◌++◌}
 use Prim.Native.Nat.{ℕ, zero, suc, ◌+◌, ◌-◌, ◌≤◌, ◌<◌, min, max}
@@ -21,9 +22,6 @@ sub_out e y z h = omega arith
 
 min_assoc : (a b c : ℕ) → min a (min b c) ≡ min (min a b) c
 min_assoc a b c = omega arith
-
-le-max : (a b : ℕ) → b ≤ max a b
-le-max a b = omega arith
 
 lower-lower : (a b : ℕ) (m : Mapping) → lower_part a (lower_part b m) ≡ lower_part (min a b) m
 lower-lower a b m = same (lower_part a (lower_part b m)) (lower_part (min a b) m) refl (rw (min_in, min_assoc)) refl refl
@@ -47,7 +45,7 @@ upper-upper a b m =
 
 lower-upper : (a b : ℕ) (m : Mapping) → lower_part a (upper_part b m) ≡ upper_part b (lower_part a m)
 lower-upper a b m = same (lower_part a (upper_part b m)) (upper_part b (lower_part a m)) refl
-    (min_in a (max b m.address) (end m) ∙ sym (sub_out (min a (end m)) m.address (max b m.address) (le-max b m.address)))
+    (min_in a (max b m.address) (end m) ∙ sym (sub_out (min a (end m)) m.address (max b m.address) (le-max_right b m.address)))
     refl refl
 
 -- a mapping kept or dropped
