@@ -62,7 +62,7 @@ pub fn lookup(
     Ok(RangeList::new(ranges, range_count).beside(x, alone))
 }
 
-// The range of a request.
+// The range of a request. Both types are another crate's, so this is no `From`.
 fn range_of(r: Request) -> Range
     ensures { result ≡ range_of r }
 {
