@@ -15,7 +15,7 @@ use text::Lines;
 
 const SPACE_RECORD: usize = 34;
 
-const REQUEST_RECORD: usize = 42;
+const REQUEST_RECORD: usize = 2 + record::RECORD_BYTES;
 
 const ADDRESS_RECORD: usize = 10;
 
@@ -122,8 +122,6 @@ fn operation_count(response: Response) -> usize
     }
 }
 
-const OPERATION_WORDS: usize = 14;
-
 // The program at work: where it is, and the words that are lent for the list, the table and the operations.
 #[derive(Drop)]
 pub struct Program<'a> {
@@ -209,8 +207,8 @@ impl Program<'_> {
         requires { (0 < self.now.progress.left) × Outstanding self.now.operations.now self.now.progress.next self.now.progress.left }
         ensures { result ≡ operation_at self.now.operations.now self.now.progress.next }
     {
-        let from = OPERATION_WORDS * self.progress.next;
-        let to = from + OPERATION_WORDS;
+        let from = cut::OPERATION_WORDS * self.progress.next;
+        let to = from + cut::OPERATION_WORDS;
         cut::read_operation(&self.operations[from..to])
     }
 
@@ -292,7 +290,7 @@ pub fn advance(
         table,
         operations,
     };
-    let mut lines = Lines::new(out);
+    let mut lines = Lines { out, end: 0 };
     let mut taken = 0;
     while lines.end + text::MOST_OPERATION <= lines.out.len() {
         let end = lines.end;

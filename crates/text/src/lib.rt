@@ -22,16 +22,7 @@ pub struct Lines<'a> {
     pub end: usize,
 }
 
-impl<'a> Lines<'a> {
-    // No text yet.
-    pub fn new(out: &'a mut [u8]) -> Lines<'a>
-        ensures bytes { result.out.now ≡ out.old }
-        ensures end { result.end ≡ 0 }
-        ensures same_slice { result.out.ghost_name ≡ out.entry.ghost_name }
-    {
-        Lines { out, end: 0 }
-    }
-
+impl Lines<'_> {
     // A run of bytes.
     pub fn bytes(&mut self, run: &[u8])
         requires { HasRoom self.old (length run.now) }
