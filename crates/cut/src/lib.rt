@@ -57,11 +57,7 @@ pub fn new_mapping(r: Request) -> Mapping
 pub fn new(r: Request) -> Option<Mapping>
     ensures { option_to_list result ≡ new r }
 {
-    if r.op == 0 {
-        Some(new_mapping(r))
-    } else {
-        None
-    }
+    (r.op == 0).then_some(new_mapping(r))
 }
 
 // Document 02: displacement, the offset less the address, which may be below zero.
@@ -85,10 +81,7 @@ fn keep_mark(r: Request, m: Mapping) -> bool
     requires { Bounded m × Bounded (mapping_of r) }
     ensures { result ≡ keep_mark r m }
 {
-    match new(r) {
-        Some(asked) => agree(m, asked),
-        None => false,
-    }
+    new(r).is_some_and(|asked| agree(m, asked))
 }
 
 // The last byte of the requested range.

@@ -129,10 +129,16 @@ impl<'a> RangeList<'a> {
     {
         let i = self.first_ending_behind(x);
         let Some(y) = self.get(i) else {
-            return table::nothing(bytes);
+            return Seen {
+                shown: Shown::Nothing,
+                bytes,
+            };
         };
         if x < y.start {
-            return table::nothing(bytes.min(y.start - x));
+            return Seen {
+                shown: Shown::Nothing,
+                bytes: bytes.min(y.start - x),
+            };
         }
         Seen {
             shown: Shown::Sparse,

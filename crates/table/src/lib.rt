@@ -27,7 +27,7 @@ pub struct Replacement {
     pub upper: Option<Mapping>,
 }
 
-// The mapping in the four words from word `at` on. A pattern of four would need an array, and `first_chunk` an `Option`.
+// The mapping in the four words from word `at` on.
 pub fn mapping_from(words: &[u64], at: usize) -> Mapping
     requires { at + 4 ≤ length words.now }
     ensures { result ≡ mapping_from at words.now }
@@ -71,7 +71,7 @@ pub fn first_starting_behind(t: &[u64], from: usize, count: usize, x: u64) -> us
 }
 
 // Nothing is seen, for so many bytes.
-pub fn nothing(bytes: u64) -> Seen
+fn nothing(bytes: u64) -> Seen
     ensures { result ≡ nothing bytes }
 {
     Seen {
@@ -240,6 +240,7 @@ impl Rows for Table<'_> {
 impl<'a> Table<'a> {
     ghost use Rattle.table.specs.Held.{mappings_held};
 
+    #[tactic(auto, using(crate::proofs::Kept::widest_kept))]
     pub fn new(words: &'a [u64], count: usize) -> Table<'a>
         requires { Valid words.now count }
         ensures { mappings_held result ≡ mappings_in count words.now }
@@ -319,10 +320,7 @@ impl<'a> Table<'a> {
 fn one_or_none(m: Option<Mapping>) -> usize
     ensures { (result ≡ length (option_to_list m)) × (result ≤ 1) }
 {
-    match m {
-        Some(_) => 1,
-        None => 0,
-    }
+    usize::from(m.is_some())
 }
 
 // How many mappings take the place.

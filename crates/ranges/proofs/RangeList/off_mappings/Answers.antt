@@ -11,15 +11,13 @@ pub returns-in_default : goal.returns-in_default
 returns-in_default c =
     let l = c.args.self.now in
     let ys = ranges_held l in
-    c.nothing.ensures
-    ∙ off-end ys (valid_spaced (kept_valid l.kept)) c.args.x c.args.bytes (c.first_ending_behind-i.ensures ∙ first_place c.args.x ys) (none_there ys _ (sym c.get.ensures ∙ c.in_default.is))
+    off-end ys (valid_spaced (kept_valid l.kept)) c.args.x c.args.bytes (c.first_ending_behind-i.ensures ∙ first_place c.args.x ys) (none_there ys _ (sym c.get.ensures ∙ c.in_default.is))
 
 pub returns-then-x-y : goal.returns-then-x-y
 returns-then-x-y c =
     let l = c.args.self.now in
     let ys = ranges_held l in
-    c.nothing-then-x-y.ensures
-    ∙ off_next ys (valid_spaced (kept_valid l.kept)) c.args.x c.args.bytes (c.first_ending_behind-i.ensures ∙ first_place c.args.x ys) (sym c.get.ensures ∙ c.in-Some.is) c.if-x-y.true (omega (arith, c.min.ensures))
+    off_next ys (valid_spaced (kept_valid l.kept)) c.args.x c.args.bytes (c.first_ending_behind-i.ensures ∙ first_place c.args.x ys) (sym c.get.ensures ∙ c.in-Some.is) c.if-x-y.true (omega (arith, c.min.ensures))
 
 pub overflow_add-y : goal.overflow_add-y
 overflow_add-y c =
