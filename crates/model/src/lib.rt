@@ -9,7 +9,8 @@ pub struct Range {
     pub size: u64,
 }
 
-// A GPU address space (document 01: Space). A reservation of size 0 is none.
+// A GPU address space (document 01: Space). A reservation of size 0 is none, and no Option: `space_tests` (specs/Rules)
+// refuses one of size 0 that starts elsewhere than at 0.
 #[derive(Clone, Copy)]
 pub struct Space {
     pub start: u64,
@@ -27,7 +28,8 @@ pub struct Mapping {
 }
 
 // A request, with the seven fields of the record (document 01: Request record), which calls object, address, offset
-// and size handle, addr, bo_offset and range. A request by numbers has flags and pad 0.
+// and size handle, addr, bo_offset and range. A request by numbers has flags and pad 0. `op`, `flags` and `pad` are numbers
+// and no enums: `form_rows`, `object_row` and `offset_row` (specs/Rules) answer for every one.
 #[derive(Clone, Copy)]
 pub struct Request {
     pub op: u64,

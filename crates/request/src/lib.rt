@@ -67,7 +67,7 @@ impl Lent<'_> {
     // for a call that is not made.
     #[inline(always)]
     #[tactic(auto, using(crate::proofs::Checked::none_listed))]
-    fn list_verdict(&self, s: CheckedSpace) -> Result<(), Refusal>
+    pub fn list_verdict(&self, s: CheckedSpace) -> Result<(), Refusal>
         ensures { reply_of result ≡ verdict (list_row s.space (lent_of self.now).ranges ∷ []) }
     {
         if self.ranges.is_empty() && self.range_count == 0 {
@@ -140,7 +140,8 @@ pub fn bind_request(
 }
 
 // A request without the flag on a table that is known to pass the rows up to 17, as each of a batch is: rows 6 to 11 and 16.
-// The first mapping that ends behind its address is at `place`.
+// The first mapping that ends behind its address is at `place`. What is known (`Checked`, `FirstBehind`) is no field of a
+// struct: the table is lent to write, and a ghost field beside a `&mut` has to stay true at each write.
 pub fn bind_known(
     s: Space,
     table: &mut [u64],

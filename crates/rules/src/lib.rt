@@ -140,7 +140,7 @@ fn offset_is_right(r: Request) -> bool
     r.op != 0 || sum_within(r.offset, r.size, LIMIT)
 }
 
-// Rows 13 and 14: the form of a request. Flags are 0, or those that are served.
+// Rows 13 and 14: the form of a request. Flags are 0, or those that are served, a number as `form_rows` takes it.
 #[tactic(auto, unfolding(model::specs::Rows::decide, model::specs::Rules::form_rows))]
 pub fn form_verdict(r: Request, served: u64) -> Result<(), Refusal>
     ensures { reply_of result ≡ verdict (form_rows served r) }
