@@ -1,10 +1,11 @@
 // The C boundary: what a C or Rust driver links. host/include/waylluqen.h declares it.
-// Numbers for refusals and for what is shown, and counts beside slices, are the C interface's.
+// Numbers for refusals and for what is shown, and counts beside slices, are the C interface's. Counts are cast: std has no
+// From between u64 and usize, and each cast is proved to lose nothing.
 #![tactic(auto)]
 
 ghost use Rattle.std.specs.Prelude.{◌≡◌};
 ghost use Rattle.model.specs.Rows.{answered, verdict};
-ghost use Rattle.model.specs.Calls.{reply_of, space_of, bytes, check_rows, check_request, bind, lookup};
+ghost use Rattle.model.specs.Calls.{numbered, reply_of, space_of, bytes, check_rows, check_request, bind, lookup};
 ghost use Rattle.batches.specs.Batch.{bind_batch, batch_reply};
 ghost use Rattle.pages.specs.Pages.{page_entries};
 ghost use Rattle.waylluqen.specs.Words.{shown_words, translation_of, answer_of, left, batch_left, mapping_in, pages_of, pages_left};
@@ -15,7 +16,8 @@ use batches::BatchRefusal;
 use bind::Numbers;
 use model::{Grant, Mapping, Range, Refusal, Seen, Shown, Space};
 
-// A space, as C hands it over.
+// A space, as C hands it over: the C struct has the four numbers flat, and a Space's reservation is a Range, so this is no
+// model::Space. The edit reservation_swapped holds the conversion.
 #[repr(C)]
 #[derive(Clone, Copy)]
 pub struct SpaceWords {
@@ -77,17 +79,30 @@ impl From<Seen> for Translation {
     }
 }
 
+// A refusal's number and its place.
+fn refusal_words(w: Refusal) -> (u64, u64)
+    ensures { result ≡ numbered w }
+{
+    (
+        u64::from(rules::refusal_number(w)),
+        rules::refusal_place(w) as u64,
+    )
+}
+
 impl From<Result<Seen, Refusal>> for Translation {
     ghost from_gives = { λ a t. t ≡ translation_of (reply_of a) };
 
     fn from(answer: Result<Seen, Refusal>) -> Translation {
         match answer {
             Ok(seen) => Translation::from(seen),
-            Err(refusal) => Translation {
-                refusal: u64::from(rules::refusal_number(refusal)),
-                place: rules::refusal_place(refusal) as u64,
-                ..Translation::default()
-            },
+            Err(refusal) => {
+                let (refusal, place) = refusal_words(refusal);
+                Translation {
+                    refusal,
+                    place,
+                    ..Translation::default()
+                }
+            }
         }
     }
 }
@@ -165,10 +180,9 @@ pub extern "C" fn waylluqen_check_request(
         reserved_start,
         reserved_size,
     });
-    match check_request(record, space) {
-        Ok(()) => 0,
-        Err(refusal) => rules::refusal_number(refusal),
-    }
+    check_request(record, space)
+        .err()
+        .map_or(0, rules::refusal_number)
 }
 
 // What a byte address shows in a table of `count` mappings, beside a list of sparse ranges, and for how many bytes, or the
@@ -275,7 +289,8 @@ pub extern "C" fn waylluqen_bind_batch(
     AnswerWords::new(answer, count, range_count)
 }
 
-// A mapping, as C hands it over.
+// A mapping, as C hands it over. It is no model::Mapping: repr(C) promises a layout, and model, which has only what must be
+// believed, promises none.
 #[repr(C)]
 #[derive(Clone, Copy)]
 pub struct MappingWords {
@@ -316,11 +331,14 @@ impl From<Result<usize, Refusal>> for PagesWords {
                 entries: entries as u64,
                 ..PagesWords::default()
             },
-            Err(refusal) => PagesWords {
-                refusal: u64::from(rules::refusal_number(refusal)),
-                place: rules::refusal_place(refusal) as u64,
-                ..PagesWords::default()
-            },
+            Err(refusal) => {
+                let (refusal, place) = refusal_words(refusal);
+                PagesWords {
+                    refusal,
+                    place,
+                    ..PagesWords::default()
+                }
+            }
         }
     }
 }
