@@ -113,7 +113,8 @@ fn remove_range(
     })
 }
 
-// One with the flag, behind those rows: rows 19, 20 and 11, and the list.
+// One with the flag, behind those rows: rows 19, 20 and 11, and the list. `Relistable` is the fact of no type: the list is lent
+// to write, and a ghost field beside a `&mut` has to stay true at each write.
 fn relist(
     r: Request,
     ranges: &mut [u64],

@@ -9,7 +9,7 @@ use model::{Refusal, Request};
 
 pub const RECORD_BYTES: usize = 40;
 
-// N bytes from a place on.
+// N bytes from a place on. Bytes and a place stay two parameters, as an index has them: a struct would be made for each field.
 fn bytes_at<const N: usize>(bytes: &[u8], at: usize) -> [u8; N]
     requires { at + N ≤ length bytes.now }
     ensures { result ≡ take N (drop at bytes.now) }

@@ -225,6 +225,7 @@ impl Program<'_> {
     }
 
     // The next record, if its bytes are there or no more come: the step, and the line of its answer. How many bytes it took.
+    // `bytes` and `last` are no fields of the program: each turn is lent what the one before left, and `last` goes with them.
     #[tactic(auto, using(crate::proofs::Coming::same_place, program::proofs::Records::record_fits))]
     fn answer(&mut self, bytes: &[u8], last: bool, lines: &mut Lines<'_>) -> usize
         requires { Ready self.old.progress self.old.operations.now bytes.now × (self.old.progress.left ≡ 0) × (self.old.progress.stopped ≡ false) × HasRoom lines.old 320 }

@@ -162,7 +162,8 @@ pub trait Rows: Copy {
     // What each `impl` must prove.
     ghost in_order: { (all : Self) → InOrder (rows all) };
 
-    // The place of the first row that ends behind the byte address `x`; the number of rows where none does.
+    // The place of the first row that ends behind the byte address `x`; the number of rows where none does, which is the place
+    // where one would be put in, and so no None.
     final fn first_ending_behind(self, x: u64) -> usize
         ensures { result ≡ first_where (ends_behind x) (rows self) }
     {

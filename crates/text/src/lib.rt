@@ -15,7 +15,7 @@ use program::Response;
 pub const MOST_OPERATION: usize = 320;
 
 // A lent slice, and where the text that has been written into it ends. It is no `fmt::Write`, since no clause of `write!` rules
-// an error out: `operation` and `response` can't fail.
+// an error out: `operation` and `response` can't fail. Each method asks for room of its own (`HasRoom`), and no field says it.
 #[derive(Drop)]
 pub struct Lines<'a> {
     pub out: &'a mut [u8],

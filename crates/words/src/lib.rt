@@ -1,4 +1,5 @@
-// Runs of words inside one lent slice: stored, moved, cleared and looked at.
+// Runs of words inside one lent slice: stored, moved, cleared and looked at. Places and numbers are parameters, as in the
+// library's `copy_within`: a struct of them would be made for one call.
 #![tactic(auto)]
 
 ghost use Rattle.std.specs.Prelude.{◌≡◌, true, ◌+◌, ◌-◌, ◌*◌, ◌/◌, ◌<◌, ◌≤◌, length, replicate};
