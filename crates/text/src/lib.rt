@@ -8,6 +8,7 @@ ghost use Rattle.program.specs.Text.{decimal, spaced, rest_lines, operation_line
 ghost use Rattle.program.specs.Script.{lines, response_told};
 ghost use Rattle.text.specs.Lines.{HasRoom, Adds, phrase_of, line_of, keep_of, bare_of};
 
+use itoa::Buffer;
 use model::{Mapping, Operation, Rests, Shown};
 use program::Response;
 
@@ -33,15 +34,13 @@ impl Lines<'_> {
         self.end = end;
     }
 
-    // A number's decimal digits: those of its tenth, and then the last one.
+    // A number's decimal digits.
+    #[tactic(auto, using(crate::proofs::Digits::same_decimal))]
     fn decimal(&mut self, n: u64)
         requires { HasRoom self.old (length (decimal n)) }
         ensures { Adds self.old (decimal n) (length (decimal n)) self.new }
     {
-        if 10 <= n {
-            self.decimal(n / 10);
-        }
-        self.bytes(&[b'0' + (n % 10) as u8]);
+        self.bytes(Buffer::new().format(n).as_bytes());
     }
 
     // Numbers, each behind a space.
