@@ -25,7 +25,7 @@ const REMAP: u64 = 1;
 
 const UNMAP: u64 = 2;
 
-// An absent rest.
+// An absent rest. Tried as `Mapping::default()`, after which each case of `write_operation` asked for an answer more.
 const ABSENT: Mapping = Mapping {
     address: 0,
     size: 0,
@@ -92,7 +92,8 @@ pub fn last_byte(r: Request) -> u64
     r.address + (r.size - 1)
 }
 
-// What is left below the range of a mapping that is hit: it ends behind the range's first byte.
+// What is left below the range of a mapping that is hit: it ends behind the range's first byte. Where nothing is left, the size
+// is 0: no Option, since the clause says the whole part, as the model's `lower_part` does, and `upper_part` below.
 pub fn lower_part(r: Request, m: Mapping) -> Mapping
     requires { Cuttable r m }
     ensures { result ≡ lower_part r.address m }
@@ -256,6 +257,7 @@ impl Cut {
         requires { Hits self.request t.now self.lo self.hi (length operations.old) }
         ensures { operations.new ≡ stored operations.old 0 (flat_map words_of_operation (hit_operations self.request (between t.now self.lo self.hi))) }
     {
+        // By place, as in entries: after chunks_exact_mut a proof knows the slice's length alone.
         for i in self.lo..self.hi {
             let operation = operation_of(self.request, table::read_mapping(t, i));
             write_operation(operations, OPERATION_WORDS * (i - self.lo), operation);
