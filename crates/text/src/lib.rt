@@ -15,6 +15,13 @@ use program::Response;
 // The lines of an operation have no more bytes than this; an answer's line has fewer.
 pub const MOST_OPERATION: usize = 320;
 
+// A mapping's four numbers.
+fn mapping_words(m: Mapping) -> [u64; 4]
+    ensures { result ≡ words_of m }
+{
+    [m.address, m.size, m.object, m.offset]
+}
+
 // A lent slice, and where the text that has been written into it ends. It is no `fmt::Write`, since no clause of `write!` rules
 // an error out: `operation` and `response` can't fail. Each method asks for room of its own (`HasRoom`), and no field says it.
 #[derive(Drop)]
@@ -77,7 +84,7 @@ impl Lines<'_> {
         requires { HasRoom self.old (length word.now + 85) }
         ensures { Adds self.old (line_of word.now (words_of m)) (length word.now + 85) self.new }
     {
-        self.line(word, &[m.address, m.size, m.object, m.offset]);
+        self.line(word, &mapping_words(m));
     }
 
     // The same, and the keep mark.
@@ -85,7 +92,7 @@ impl Lines<'_> {
         requires { HasRoom self.old (length word.now + 111) }
         ensures { Adds self.old (keep_of word.now keep m) (length word.now + 111) self.new }
     {
-        self.phrase(word, &[m.address, m.size, m.object, m.offset]);
+        self.phrase(word, &mapping_words(m));
         self.line(b" keep", &[u64::from(keep)]);
     }
 

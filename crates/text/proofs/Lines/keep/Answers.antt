@@ -14,4 +14,4 @@ keep_mark false = refl
 pub returns : goal.returns
 unfolding ascii
 returns c =
-    adds_most (omega arith) (adds_behind (omega arith) c.phrase.ensures (rw (c.from.ensures ∙ keep_mark c.args.keep) at c.line.ensures))
+    adds_most (omega arith) (adds_behind (omega arith) (rw c.mapping_words.ensures at c.phrase.ensures) (rw (c.from.ensures ∙ keep_mark c.args.keep) at c.line.ensures))
