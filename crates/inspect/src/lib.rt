@@ -65,8 +65,8 @@ fn first_bad(s: CheckedSpace, t: &[u64], count: usize) -> Option<usize>
     ensures { FirstBad (bad_place s.space 0 (mappings_in count t.now)) count result }
 {
     let mut end: u64 = 0;
-    for place in 0..count {
-        let m = table::read_mapping(t, place);
+    for (place, row) in t[..4 * count].as_chunks::<4>().0.iter().enumerate() {
+        let m = table::mapping_from(row, 0);
         if !rules::mapping_fits(s.space, end, m) {
             return Some(place);
         }
@@ -83,8 +83,8 @@ fn all_fit(t: &[u64], count: usize, from: u64, stop: u64) -> bool
 {
     let mut end = from;
     let mut seen = Joined::default();
-    for i in 0..count {
-        let m = table::read_mapping(t, i);
+    for row in t[..4 * count].as_chunks::<4>().0 {
+        let m = table::mapping_from(row, 0);
         seen = seen.join(end, m);
         end = m.address.wrapping_add(m.size);
     }

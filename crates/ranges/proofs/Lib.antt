@@ -1,4 +1,5 @@
 pub mod Places
+pub mod Chunks
 pub mod Fits
 pub mod First
 pub mod Changed

@@ -44,8 +44,8 @@ fn all_fit(s: Space, list: &[u64], count: usize) -> bool
     ensures { result ≡ all (list_tests s 0 (ranges_in count list.now)) }
 {
     let mut end: u64 = 0;
-    for i in 0..count {
-        let y = range_at(list, i);
+    for row in list[..2 * count].as_chunks::<2>().0 {
+        let y = range_at(row, 0);
         if !rules::range_fits(s, end, y) {
             return false;
         }

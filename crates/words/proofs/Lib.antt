@@ -1,3 +1,4 @@
 pub mod Stored
 pub mod Moved
 pub mod Zeros
+pub mod Chunks
