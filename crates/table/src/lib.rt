@@ -32,11 +32,12 @@ pub fn mapping_from(words: &[u64], at: usize) -> Mapping
     requires { at + 4 ≤ length words.now }
     ensures { result ≡ mapping_from at words.now }
 {
+    let [address, size, object, offset] = words[at..at + 4].as_chunks::<4>().0[0];
     Mapping {
-        address: words[at],
-        size: words[at + 1],
-        object: words[at + 2],
-        offset: words[at + 3],
+        address,
+        size,
+        object,
+        offset,
     }
 }
 
@@ -194,7 +195,7 @@ fn step<R: Rows>(all: R, s: Search, x: u64) -> Search
 // The search for `x` by halves, which may be used since ends ascend: no more looks than the number of rows has binary
 // digits. The steps for the most rows are written down, so that the compiler sets them one behind the other, each with a
 // conditional move: in a loop it makes a branch of the look, and half of the time an address that nobody foresaw goes the
-// other way.
+// other way (docs/BENCHMARKS.md has the figures).
 fn halve<R: Rows>(all: R, x: u64) -> Search
     ensures { (result ≡ halving (R.rows all) x) × (result.looks ≤ binary_digits (length (R.rows all))) }
 {
