@@ -9,7 +9,7 @@ ghost use Rattle.table.specs.Splice.{mappings_of};
 ghost use Rattle.model.specs.Calls.{reply_of};
 ghost use Rattle.change.specs.Change.{Ready, FirstBehind, Placed, BehindHits, changed};
 
-use cut::Cut;
+use cut::{Cut, Hit};
 use model::{Refusal, Request};
 use table::Replacement;
 
@@ -43,12 +43,18 @@ fn replacement(hit: Cut, t: &[u64]) -> Replacement
             upper: None,
         };
     }
-    let first = table::read_mapping(t, hit.lo);
-    let last = table::read_mapping(t, hit.hi - 1);
+    let first = Hit {
+        request: hit.request,
+        mapping: table::read_mapping(t, hit.lo),
+    };
+    let last = Hit {
+        request: hit.request,
+        mapping: table::read_mapping(t, hit.hi - 1),
+    };
     Replacement {
-        lower: cut::some_left(cut::lower_part(hit.request, first)),
+        lower: cut::some_left(first.lower_part()),
         new,
-        upper: cut::some_left(cut::upper_part(hit.request, last)),
+        upper: cut::some_left(last.upper_part()),
     }
 }
 

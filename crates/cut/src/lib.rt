@@ -76,47 +76,12 @@ fn agree(m: Mapping, n: Mapping) -> bool
     (m.object == n.object) & (displacement(m) == displacement(n))
 }
 
-// Document 02: keep.
-fn keep_mark(r: Request, m: Mapping) -> bool
-    requires { Bounded m × Bounded (mapping_of r) }
-    ensures { result ≡ keep_mark r m }
-{
-    new(r).is_some_and(|asked| agree(m, asked))
-}
-
 // The last byte of the requested range.
 pub fn last_byte(r: Request) -> u64
     requires { (0 < r.size) × (stop r ≤ limit) }
     ensures { result ≡ stop r - 1 }
 {
     r.address + (r.size - 1)
-}
-
-// What is left below the range of a mapping that is hit: it ends behind the range's first byte. Where nothing is left, the size
-// is 0: no Option, since the clause says the whole part, as the model's `lower_part` does, and `upper_part` below.
-pub fn lower_part(r: Request, m: Mapping) -> Mapping
-    requires { Cuttable r m }
-    ensures { result ≡ lower_part r.address m }
-{
-    Mapping {
-        size: r.address.saturating_sub(m.address),
-        ..m
-    }
-}
-
-// What is left above the range of a mapping that is hit, which starts before the range's end: its offset moves up by the
-// same distance as its address.
-pub fn upper_part(r: Request, m: Mapping) -> Mapping
-    requires { Cuttable r m }
-    ensures { result ≡ upper_part (stop r) m }
-{
-    let from = last_byte(r) + 1;
-    Mapping {
-        address: from,
-        size: (m.address + m.size).saturating_sub(from),
-        object: m.object,
-        offset: m.offset + (from - m.address),
-    }
 }
 
 // A part of a mapping, unless nothing is left.
@@ -138,15 +103,59 @@ fn rests(lower: Option<Mapping>, upper: Option<Mapping>) -> Option<Rests>
     }
 }
 
-// The operation of a mapping that is hit: what is left of it decides.
-fn operation_of(r: Request, m: Mapping) -> Operation
-    requires { Cuttable r m × (r.offset ≤ limit) }
-    ensures { result ≡ operation_of r m }
-{
-    let keep = keep_mark(r, m);
-    match rests(some_left(lower_part(r, m)), some_left(upper_part(r, m))) {
-        None => Operation::Unmap(keep, m),
-        Some(rests) => Operation::Remap(keep, m, rests),
+// A mapping that a request hits.
+#[derive(Clone, Copy)]
+pub struct Hit {
+    pub request: Request,
+    pub mapping: Mapping,
+    ghost cuttable: { Cuttable request mapping },
+}
+
+impl Hit {
+    // Document 02: keep.
+    fn keep_mark(self) -> bool
+        requires { self.request.offset ≤ limit }
+        ensures { result ≡ keep_mark self.request self.mapping }
+    {
+        new(self.request).is_some_and(|asked| agree(self.mapping, asked))
+    }
+
+    // What is left below the range: the mapping ends behind the range's first byte. Where nothing is left, the size is 0: no
+    // Option, since the clause says the whole part, as the model's `lower_part` does, and `upper_part` below.
+    pub fn lower_part(self) -> Mapping
+        ensures { result ≡ lower_part self.request.address self.mapping }
+    {
+        Mapping {
+            size: self.request.address.saturating_sub(self.mapping.address),
+            ..self.mapping
+        }
+    }
+
+    // What is left above the range, before whose end the mapping starts: its offset moves up by the same distance as its
+    // address.
+    pub fn upper_part(self) -> Mapping
+        ensures { result ≡ upper_part (stop self.request) self.mapping }
+    {
+        let m = self.mapping;
+        let from = last_byte(self.request) + 1;
+        Mapping {
+            address: from,
+            size: (m.address + m.size).saturating_sub(from),
+            object: m.object,
+            offset: m.offset + (from - m.address),
+        }
+    }
+
+    // The operation: what is left decides.
+    fn operation(self) -> Operation
+        requires { self.request.offset ≤ limit }
+        ensures { result ≡ operation_of self.request self.mapping }
+    {
+        let keep = self.keep_mark();
+        match rests(some_left(self.lower_part()), some_left(self.upper_part())) {
+            None => Operation::Unmap(keep, self.mapping),
+            Some(rests) => Operation::Remap(keep, self.mapping, rests),
+        }
     }
 }
 
@@ -259,8 +268,11 @@ impl Cut {
     {
         // By place, as in entries: after chunks_exact_mut a proof knows the slice's length alone.
         for i in self.lo..self.hi {
-            let operation = operation_of(self.request, table::read_mapping(t, i));
-            write_operation(operations, OPERATION_WORDS * (i - self.lo), operation);
+            let hit = Hit {
+                request: self.request,
+                mapping: table::read_mapping(t, i),
+            };
+            write_operation(operations, OPERATION_WORDS * (i - self.lo), hit.operation());
         }
     }
 
