@@ -85,6 +85,7 @@ fn turns(
         let r = record::fields(bytes);
         place = Table::new(table, made.count).first_near(r.address, place);
         let left = &mut operations[cut::OPERATION_WORDS * made.operations..];
+        // No map_err and `?`: tried, and the answers behind the closure did not close.
         match turn(s, table, made.count, left, r, place) {
             Ok(next) => {
                 made = Made {

@@ -19,7 +19,7 @@ use table::Rows;
 // Document 02: a list is of even length up to so many words.
 const MOST_WORDS: usize = 128;
 
-// The range at place `i`.
+// The range at place `i`. It is no twin of `table::mapping_from`, which makes another type of four words.
 pub fn range_at(list: &[u64], i: usize) -> Range
     requires { 2 * i + 2 ≤ length list.now }
     ensures { result ≡ range_at list.now i }
@@ -38,7 +38,8 @@ fn length_is_right(list: &[u64], count: usize) -> bool
     (n % 2 == 0) & (n <= MOST_WORDS) & (count <= n / 2)
 }
 
-// Each range keeps its rules, and starts where its forerunner ends or later.
+// Each range keeps its rules, and starts where its forerunner ends or later. `inspect::first_bad` goes so over mappings, by
+// other rules, and answers a place.
 fn all_fit(s: Space, list: &[u64], count: usize) -> bool
     requires { (s.start + s.size ≤ limit) × (2 * count ≤ length list.now) }
     ensures { result ≡ all (list_tests s 0 (ranges_in count list.now)) }
