@@ -63,7 +63,7 @@ pub fn first_starting_behind(t: &[u64], from: usize, count: usize, x: u64) -> us
     requires { (from ≤ count) × (4 * count ≤ length t.now) }
     ensures { result ≡ from + first_where (starts_behind x) (drop from (mappings_in count t.now)) }
 {
-    // A loop: tried with find, which proved, but the library's code grew by 26 instructions (3,895 to 3,921).
+    // A loop: tried with find, which proved, but a call took 6 to 14 instructions more, of about 800 to 70,000.
     for i in from..count {
         if x < read_mapping(t, i).address {
             return i;
