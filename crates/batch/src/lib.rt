@@ -1,6 +1,7 @@
 // The public call for a whole array of requests (document 02, Item 2): all are granted, or none. The table and the list are
 // checked once; each request then goes to `request` on a table that is known to pass, which a grant leaves so for the next
-// one. The mappings before stand in the work table, and are put back where a request is refused.
+// one. The mappings before stand in the work table, and are put back where a request is refused. What is lent comes one by one,
+// as C has it and as the equation that is promised names it.
 #![tactic(auto)]
 
 ghost use Rattle.std.specs.Prelude.{◌≡◌, [], ◌∷◌, length};

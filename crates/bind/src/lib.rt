@@ -1,5 +1,6 @@
 // The public calls on a table and a list of sparse ranges: any space, any words, any counts and any numbers get the
-// answer, and leave the words, that the model gives.
+// answer, and leave the words, that the model gives. Words and counts are lent one by one, as C has them and as the equations
+// that are promised name them.
 #![tactic(auto)]
 
 ghost use Rattle.std.specs.Prelude.{◌≡◌, List, ℕ, ◌<◌};

@@ -60,6 +60,7 @@ fn replacement(hit: Cut, t: &[u64]) -> Replacement
 
 // The request carried out: its operations from the first word on, and the table in its place. The first mapping that ends
 // behind its address is at place `lo`. Where the table or the words for its operations have no room, nothing has changed.
+// Words and a count, and no `Table`, since the table is lent to write (`table::splice` says why).
 pub fn change(
     r: Request,
     t: &mut [u64],
