@@ -5,12 +5,12 @@
 ghost use Rattle.std.specs.Prelude.{◌≡◌, ◌+◌, ◌^◌, ◌≤◌, ◌<◌, length, codes, Some, MatchResult};
 ghost use Rattle.vmbind.specs.declared.Failure.TheVariants.{Write};
 ghost use Rattle.vmbind.specs.Buffers.{message};
-ghost use Rattle.vmbind.specs.Buffers.{start_run, Below64KiB, Brings, Refilled, Printed, Writes, Held, Carries, Ran};
+ghost use Rattle.vmbind.specs.Buffers.{start_run, Below64KiB, got_of, Brings, Refilled, Printed, Writes, Held, Carries, Ran};
 
 use script::Progress;
-use std::fmt;
 use std::io::{Read, Stdin, Stdout, Write};
 use std::ops::ControlFlow;
+use std::{fmt, io};
 
 // The list of ranges, the table, and the operations of a request on it; with the input and the output they have 58,480 bytes
 // together (`Below64KiB`).
@@ -65,12 +65,19 @@ struct Run {
     written: usize,
 }
 
+// What a read's answer says: an error is a failure, and no end of the input.
+fn brought(answer: io::Result<usize>) -> Result<usize, Failure>
+    ensures { result ≡ got_of answer }
+{
+    answer.map_err(|_| Failure::Read)
+}
+
 // Reads once, behind the bytes that are kept. There is room for one more, so that no byte means the end of the input.
 fn read_behind(mut stdin: Stdin, input: &mut [u8], kept: usize) -> Result<usize, Failure>
     requires { kept < length input.old }
     ensures { Brings input.old kept result input.new }
 {
-    stdin.read(&mut input[kept..]).map_err(|_| Failure::Read)
+    brought(stdin.read(&mut input[kept..]))
 }
 
 // Hands over bytes, of which there are some; the system may take fewer. A write that takes none has failed.
