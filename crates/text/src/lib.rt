@@ -41,16 +41,49 @@ impl Lines<'_> {
         self.end = end;
     }
 
-    // A number's decimal digits.
+    // A number's decimal digits one by one: those of its tenth, and then the last one.
+    fn digit_by_digit(&mut self, n: u64)
+        requires { HasRoom self.old (length (decimal n)) }
+        ensures { Adds self.old (decimal n) (length (decimal n)) self.new }
+    {
+        if n < 10 {
+            self.bytes(&[b'0' + n as u8]);
+            return;
+        }
+        self.digit_by_digit(n / 10);
+        self.bytes(&[b'0' + (n % 10) as u8]);
+    }
+
+    // The same, a long number's by the library, four at a time: it writes them into a buffer of its own, which is copied, and
+    // for fewer than five digits that takes longer.
     #[tactic(auto, using(crate::proofs::Digits::same_decimal))]
+    fn many_digits(&mut self, n: u64)
+        requires { HasRoom self.old (length (decimal n)) }
+        ensures { Adds self.old (decimal n) (length (decimal n)) self.new }
+    {
+        if n < 10000 {
+            self.digit_by_digit(n);
+        } else {
+            self.bytes(Buffer::new().format(n).as_bytes());
+        }
+    }
+
+    // A number's decimal digits. Inlined, as the two below: a number of one digit and a word that is known are then written
+    // without a call.
+    #[inline(always)]
     fn decimal(&mut self, n: u64)
         requires { HasRoom self.old (length (decimal n)) }
         ensures { Adds self.old (decimal n) (length (decimal n)) self.new }
     {
-        self.bytes(Buffer::new().format(n).as_bytes());
+        if n < 10 {
+            self.bytes(&[b'0' + n as u8]);
+        } else {
+            self.many_digits(n);
+        }
     }
 
     // Numbers, each behind a space.
+    #[inline(always)]
     fn numbers(&mut self, numbers: &[u64])
         requires { HasRoom self.old (21 * length numbers.now) }
         ensures { Adds self.old (spaced numbers.now) (21 * length numbers.now) self.new }
@@ -62,6 +95,7 @@ impl Lines<'_> {
     }
 
     // A word and numbers.
+    #[inline(always)]
     fn phrase(&mut self, word: &[u8], numbers: &[u64])
         requires { HasRoom self.old (length word.now + 21 * length numbers.now) }
         ensures { Adds self.old (phrase_of word.now numbers.now) (length word.now + 21 * length numbers.now) self.new }
