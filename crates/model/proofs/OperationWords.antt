@@ -249,4 +249,5 @@ pub operation_reading : OperationReading
 operation_reading = record {
   exactly = λ ws o. (read_spells ws o, spells_read ws o);
   own = own_operations;
+  pinned = λ a b e. e;
 }

@@ -8,7 +8,7 @@ use Rattle.model.specs.Calls.{all, choose, answered, end, stop, Table, mappings,
 use Rattle.model.specs.Calls.{rests_of, old, rests, words_of_operation, translate, Asking, asked, Lent, bind}
 use Rattle.model.specs.Calls.{lent_after, see_in, lookup, shown_reply}
 use Rattle.model.specs.Layout.{operation_in}
-use Rattle.model.specs.Exactly.{Each, ◌∈◌, ShareByte, Ascends, TableRules, Unflagged, Agree}
+use Rattle.model.specs.Exactly.{Each, ◌∈◌, ShareByte, Ascends, TableRules, Unflagged, Agree, Pins}
 
 -- what a byte address shows in what is lent; off mappings sparse or nothing, as the list says
 abbrev pub off_mappings : Lent → ℕ → Shown
@@ -152,3 +152,5 @@ pub record Spells (ws : List ℕ) (o : Operation) : Type 0 where
 pub record OperationReading : Type 0 where
   pub exactly : (ws : List ℕ) (o : Operation) → (operation_in ws ≡ Some o) ↔ Spells ws o
   pub own : (r : Request) (ms : List Mapping) → Each (λ o. operation_in (words_of_operation o) ≡ Some o) (operations r ms)
+  -- and no two answers of the code read alike: it answers the definition's own Option, which is read as it is
+  pub pinned : Pins {A = Option Operation} (λ o. o)

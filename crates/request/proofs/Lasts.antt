@@ -34,11 +34,11 @@ abbrev pub with_list : Reply Made → ℕ → Reply Grant
 with_list (refused n p) k = refused n p
 with_list (answered g) k = answered (record { operations = g.operations; count = g.count; ranges = k })
 
-abbrev beside_list : Lent → Changed → Outcome
+abbrev pub beside_list : Lent → Changed → Outcome
 beside_list l c = record { answer = with_list c.reply l.ranges.count; table = c.table; ranges = l.ranges.words; operations = c.operations }
 
 -- what rows decide of a request that cuts the table, with the list's count and without
-list_beside : (r : Request) (l : Lent) (os : List ℕ) (ws : List Row)
+pub list_beside : (r : Request) (l : Lent) (os : List ℕ) (ws : List Row)
     → outcome_for (decide ws (cut_grant r l)) cuts r l os ≡ beside_list l (changed_for (decide ws (made r l.table)) r l.table os)
 unfolding decide
 list_beside r l os [] = refl
