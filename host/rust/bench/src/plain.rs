@@ -37,8 +37,8 @@ pub struct Folded;
 /// reservation to a search.
 pub struct Joined;
 
-/// Checks as the library does: as `Joined`, but joins gaps and goes by places; then searches by
-/// halves.
+/// Checks as the library does: as `Joined`, but joins gaps, and goes by places, the library by
+/// blocks of four words; then searches by halves.
 pub struct Indexed;
 
 /// The places by halves, in a table that keeps its rules.
