@@ -21,10 +21,10 @@ module _ (s : ℕ) (m : Mapping) {a b first last : ℕ} (some : 0 < s) (from : m
       let e : a + (b - a) ≡ b = omega (arith, range) in
       ap (λ (x : ℕ). max (min (up s a) x) (down s x)) e ∙ sym q
 
-  a_first : a ≤ first
+  pub a_first : a ≤ first
   a_first = omega (arith, address_first_cut s (part a b m) some, at_first)
 
-  first_last : first ≤ last
+  pub first_last : first ≤ last
   first_last = omega (arith, first_cut_last_cut s (part a b m) some, at_first, at_last)
 
   pub lower_is : part a first m ≡ lower s (part a b m)

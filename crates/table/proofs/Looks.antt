@@ -30,7 +30,7 @@ module _ {ms : List Mapping} (o : InOrder ms) (x : ℕ) where
       rw e at t
 
   module _ {s : Search} (g : Left ms x s) where
-    looks_few : length ms < 2 ^ 64 → 0 < s.left → s.looks < 64
+    pub looks_few : length ms < 2 ^ 64 → 0 < s.left → s.looks < 64
     looks_few l h = omega (arith, (binary-digits (length ms) 64).1 l, left_some ms x g h)
 
     pub looks_steppable : length ms < 2 ^ 64 → Steppable ms s

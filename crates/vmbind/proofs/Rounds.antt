@@ -41,7 +41,7 @@ module _ (run : Run) (h : Held run) {q : Run} (p : Printed (begun run) q) where
   unread-length : length (unread run) ≡ run.to - run.from
   unread-length = length_part run.input run.from (run.to - run.from) (omega (arith, h.order, h.inside))
 
-  taken_within : q.from ≤ q.to
+  pub taken_within : q.from ≤ q.to
   taken_within = omega (arith, h.order, p.advances.goes.within, unread-length, p.from, p.same.1)
 
   to_inside : q.to ≤ length q.input
@@ -127,7 +127,7 @@ module _ (run : Run) (h : Held run) {q : Run} (p : Printed (begun run) q) where
         more_come = p.same.2 ∙ waiting.0
 
         -- and less than a record is unread
-        few_unread : q.to < q.from + 42
+        pub few_unread : q.to < q.from + 42
         unfolding Waits
         few_unread =
             omega (arith, short_length _ waiting.1, length-drop p.taken (unread run), unread-length, taken_within, p.from, p.same.1)

@@ -62,7 +62,7 @@ pub record Writes (run : Run) (e : Result (Unit {0}) Failure) (r : Run) : Type 0
   pub same : r ≡ record run { written = taken }
   pub outcome : MatchResult e (λ _. taken ≡ run.printed) (λ f. (f ≡ Write) × (taken < run.printed))
 
--- a read's answer: so many bytes, of which none is the end of the input; an error is a failure
+-- a read's answer: so many bytes, and no byte is the end of the input; an error is a failure
 abbrev pub got_of : {E : Type 0} → Result ℕ E → Result ℕ Failure
 got_of (Ok n) = Ok n
 got_of (Err e) = Err Read
