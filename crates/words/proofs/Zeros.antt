@@ -2,7 +2,7 @@
 -- Assumes nothing.
 use mathlib.Core.Path.{◌≡◌, refl, sym, ap, ◌∙◌}
 use mathlib.Core.List.{List, [], ◌∷◌}
-use Prim.Native.Nat.{ℕ, zero, suc, ◌*◌, ◌+◌, ◌-◌, ◌≤◌, ◌<◌}
+use Prim.Native.Nat.{ℕ, zero, suc, ◌*◌, ◌+◌, ◌-◌, ◌/◌, ◌%◌, ◌≤◌, ◌<◌}
 use native.Mathlib.Omega.{arith}
 use Rattle.std.proofs.lemmas.List.{take-replicate, drop-replicate}
 use Rattle.std.specs.List.{fold}
@@ -176,6 +176,37 @@ chunk_joins ws part n k i h l e j m =
     let more : n * (i + 1) ≡ n * i + n = grind arith in
     let fit : n * (i + 1) ≤ n * k = search rules in
     rw more (more_join ws 0 (n * i) n (omega arith) j (rw at (part_joins ws part (n * i) n n is (omega arith) m)))
+
+-- the same of a chunk joined by fours in one go, or in two that are all of it: so the edit sixteen_skipped is refused for the
+-- words that its two leave out, and not for being two
+module _ (ws : List ℕ) (parts : List (List ℕ)) (n k i : ℕ) (is : parts ≡ first_chunks n k ws) (h : i < k) (fit : n * k ≤ length ws) where
+  abbrev pub chunk : List ℕ
+  chunk = get_or parts i []
+
+  chunk_in : chunk ≡ get_or (first_chunks n k ws) i []
+  chunk_in = ap (λ (x : List (List ℕ)). get_or x i []) is
+
+  long : length chunk ≡ n
+  long = length_chunk n k i ws chunk h fit chunk_in
+
+  pub once_joins : {seen most all : List ℕ} → n % 4 ≡ 0 → Joins seen ws 0 (n * i) most → Joins most chunk 0 (4 * (length chunk / 4)) all
+      → Joins seen ws 0 (n * (i + 1)) all
+  once_joins z j m =
+      let e : 4 * (length chunk / 4) ≡ n = omega (arith, long) in
+      chunk_joins ws chunk n k i h fit chunk_in j (rw e at m)
+
+  pub twice_joins : (a b : ℕ) {seen most mid all : List ℕ} → a + b ≡ n → a % 4 ≡ 0 → b % 4 ≡ 0 → Joins seen ws 0 (n * i) most
+      → Joins most (take a chunk) 0 (4 * (length (take a chunk) / 4)) mid
+      → Joins mid (take b (drop a chunk)) 0 (4 * (length (take b (drop a chunk)) / 4)) all → Joins seen ws 0 (n * (i + 1)) all
+  twice_joins a b {most = most} {mid = mid} {all = all} s za zb j first second =
+      let la : length (take a chunk) ≡ a = length-take-le a chunk (omega (arith, long)) in
+      let lb : length (take b (drop a chunk)) ≡ b = length-take-le b (drop a chunk) (simp length-drop (omega (arith, long))) in
+      let ea : 4 * (length (take a chunk) / 4) ≡ a = omega (arith, la) in
+      let eb : 4 * (length (take b (drop a chunk)) / 4) ≡ b = omega (arith, lb) in
+      let at : 0 + a ≡ a = omega arith in
+      let one : Joins most chunk 0 a mid = part_joins chunk (take a chunk) 0 a a refl (omega arith) (rw ea at first) in
+      let two : Joins mid chunk (0 + a) b all = rw at (part_joins chunk (take b (drop a chunk)) a b b refl (omega arith) (rw eb at second)) in
+      chunk_joins ws chunk n k i h fit chunk_in j (rw s at (more_join chunk 0 a b (omega (arith, long)) one two))
 
 -- the words up to a place joined in four, those behind up to the next too, and the rest in one
 pub all_joined : (ws behind rest : List ℕ) (most more : ℕ) {none some all : List ℕ} {seen : ℕ} → most + more ≤ length ws

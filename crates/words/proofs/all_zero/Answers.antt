@@ -1,9 +1,8 @@
-use mathlib.Core.Path.{◌≡◌, refl, ap}
-use mathlib.Core.List.{List, []}
-use Prim.Native.Nat.{ℕ, ◌*◌, ◌/◌, ◌%◌, ◌<◌}
+use mathlib.Core.Path.{◌≡◌, refl}
+use Prim.Native.Nat.{ℕ, ◌*◌, ◌/◌, ◌%◌, ◌<◌, ◌≤◌}
 use native.Mathlib.Omega.{arith}
-use lib.ListN.{length, get_or}
-use Rattle.words.proofs.Zeros.{length_chunk, chunk_joins, all_joined, blank_or, or_blank}
+use lib.ListN.{length}
+use Rattle.words.proofs.Zeros.{once_joins, twice_joins, all_joined, blank_or, or_blank}
 use borrow.Author.Tests.{eqb-true, eq-eqb}
 use Rattle.words.proofs.all_zero.Goals as goal
 
@@ -11,12 +10,10 @@ pub loop-turn-preserved : goal.loop-turn-preserved
 loop-turn-preserved c =
     let ws = c.args.words.now in
     let l = c.loop-turn in
-    let turn : List ℕ = get_or c.as_chunks.result.0.now l.turn-index [] in
-    let k : l.turn-index < length ws / 128 = omega (arith, c.as_chunks.ensures.front_len) in
-    let is = ap (λ (x : List (List ℕ)). get_or x l.turn-index []) c.as_chunks.ensures.front in
-    let n : length turn ≡ 128 = length_chunk 128 (length ws / 128) l.turn-index ws turn k (omega arith) is in
-    let e : 4 * (length turn / 4) ≡ 128 = omega arith in
-    chunk_joins ws turn 128 (length ws / 128) l.turn-index k (omega arith) is l.invariant (rw e at c.join_fours-all.ensures)
+    let turns : ℕ = length ws / 128 in
+    let k : l.turn-index < turns = omega (arith, c.as_chunks.ensures.front_len) in
+    let fit : 128 * turns ≤ length ws = omega arith in
+    search (once_joins, twice_joins, c.as_chunks.ensures.front, k, fit)
 
 pub returns : goal.returns
 returns c =
